@@ -23,16 +23,16 @@ unfolding module_kind fields pieces
 kind_ends v c r (inl s) = let w = s.1.1 in many_ends string w.0.1 w.1.1 r w.1.4
 kind_ends v c r (inr s) = many_ends field_group s.1.0 c r s.1.1
 
--- what is spelled is spelled in front of an end alone
+-- a module is spelled only before an end
 pub spelled_ends : (v : ModuleTy) (c r : List Tok) → module_.spells v c r → ends r ≡ true
 unfolding module_
 spelled_ends v c r s = kind_ends _ _ r s.1.4.1.4
 
--- an end is left where one is read
+-- an end is left after a module is read
 pub module_ends : (t : List Tok) (v : ModuleTy) (r : List Tok) → module_.reads t ≡ Some (v, r) → ends r ≡ true
 module_ends t v r e =
     let y = module_.sound t (v, r) e in
     spelled_ends v y.0 r y.2
 
--- what holds of a module that was read with the five names on
+-- facts about a module that was read with the five names known
 pub ruleset module_steps = (annotated_is, module_ends)

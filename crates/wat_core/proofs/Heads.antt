@@ -1,4 +1,4 @@
--- A module's head, and what stands behind its groups.
+-- A module's head, and the tokens after its groups.
 use Rattle.std.proofs.Common.{◌≡◌, ℕ, ◌+◌, ◌<◌, ◌≤◌, List, length, drop, get_or, refl, ap, sym, ◌∙◌, drop-drop}
 use Rattle.std.specs.Prelude.{Bool, true, false, ◌&&◌, not, Option, Some, None, codes}
 use Rattle.wat_lexer.specs.Token.{Tok, Placed, Entry, tokens_of}
@@ -8,7 +8,7 @@ use Rattle.wat_core.specs.Visible.{shown, seen, behind_one, closing, rest_by}
 use Rattle.wat_core.specs.ModuleHead.{behind_id, behind_name, behind_head, has_head, place_of, first_offset, begins_rparen, wrong_end}
 use Rattle.wat_core.proofs.Places.{at_place, past}
 
--- behind the first that is visible
+-- after the first visible token
 behind_first : (known : Bool) (ts ps : List Placed) (i : ℕ) → drop i ps ≡ shown known ts → drop (i + 1) ps ≡ behind_one known ts
 behind_first known ts ps i e = sym (drop-drop 1 i ps) ∙ ap (λ (l : List Placed). drop 1 l) e
 
@@ -70,7 +70,7 @@ is_head ps start word at next r p w e f h =
     let b : begins_word (codes "binary") (seen true (behind_head ps)) ≡ false = sees (begins_word (codes "binary")) (shown true (behind_head ps)) (drop next ps) (f ∙ ap (shown true) e) h in
     both a (both m (ap not b))
 
--- ---- behind the groups
+-- ---- after the groups
 
 pub no_close : (size : ℕ) (ts ps : List Placed) (i : ℕ) → drop i ps ≡ shown true ts → begins_rparen (tokens_of (drop i ps)) ≡ false → wrong_end size ts ≡ Some (place_of size (drop i ps))
 no_close size ts ps i e h =

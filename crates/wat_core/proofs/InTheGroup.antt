@@ -1,4 +1,4 @@
--- A module in its group: what is visible around it where no annotation is known, and where the five names are.
+-- A module in its group: the visible tokens around it if no annotation is known, and if the five names are known.
 use Rattle.std.proofs.Common.{◌≡◌, ◌≢◌, ℕ, ◌+◌, Bool, true, false, List, [], ◌∷◌, ◌++◌, length, drop, Some, None, refl, sym, ap, ◌∙◌, subst, inl, inr}
 use Rattle.std.specs.Prelude.{Option, Result, Ok, Err, IfOk, IfErr, MatchResult, suc}
 use Rattle.std.proofs.lemmas.Bool.{cases_Bool}
@@ -15,7 +15,7 @@ use Rattle.wat_tokens.specs.Laws.State.{behind_then}
 use Rattle.wat_tokens.specs.Tests.{as_lparen, ends}
 use Rattle.wat_tokens.specs.Token.{Tok, Placed, LParen, RParen, tokens_of}
 
--- ---- a `)` that is visible with the five names is visible without, and at the same place
+-- ---- a `)` that is visible with the five names is visible without them, at the same place
 
 -- the same tokens are hidden before it
 record SameClose (place : Option ℕ) (t : List Tok) : Type 0 where
@@ -61,7 +61,8 @@ ends_cases [] e some = absurd (some refl)
 ends_cases (RParen ∷ l) e some = (l, refl)
 ends_cases (_ ∷ l) e some = absurd cc
 
--- Behind a module its `)` alone is visible where no annotation is known: it is visible with the five names, and behind it nothing is visible.
+-- If no annotation is known and only `)` is visible after a module, that `)` is visible with the five names.
+-- After that `)` no token is visible.
 pub last_seen : (t : List Tok) → ends (visible_tokens true t) ≡ true → visible_tokens false t ≡ RParen ∷ [] → (more : List Tok) × (visible_tokens true t ≡ RParen ∷ more) × (visible_tokens false (behind true 1 t) ≡ [])
 last_seen t e alone =
     let some : visible_tokens true t ≢ [] = λ none. (let f = none_seen t none in cc) in
@@ -69,7 +70,7 @@ last_seen t e alone =
     let p = closes_alike t more is in
     (more, is, ap (λ (s : List Tok). visible_tokens false s) (sym p.same_rest) ∙ seen_behind false t RParen [] alone)
 
--- and the other way
+-- the converse
 pub alone_seen : (t more : List Tok) → visible_tokens true t ≡ RParen ∷ more → visible_tokens false (behind true 1 t) ≡ [] → visible_tokens false t ≡ RParen ∷ []
 alone_seen t more is none =
     let p = closes_alike t more is in
@@ -84,7 +85,7 @@ opens_is [] r u e = absurd cc
 opens_is (LParen ∷ l) r u e = ap (λ (x : Unit {0} × List Tok). LParen ∷ x.1) (some_is (tt, l) (u, r) e)
 opens_is (_ ∷ l) r u e = absurd cc
 
--- q is directly behind the `(` that a text begins with
+-- q is directly after the `(` at the beginning of a text
 pub record Opened (text : List ℕ) (q : State) : Type 0 where
   pub all : List Placed
   pub cut : IsCut text all
@@ -108,12 +109,12 @@ opened text p q u (ts, cut, is) reads stands known = record {
 abbrev pub OneCut : Type 0
 OneCut = (text : List ℕ) (ts us : List Placed) → IsCut text ts → IsCut text us → ts ≡ us
 
--- q is behind `(`, and e behind what was taken then
+-- q is after `(`, and e is after the tokens that were taken then
 module _ (text : List ℕ) (q e : State) (o : Opened text q) where
   off_too : e.known ≡ q.known → e.left ≡ visible_tokens e.known e.rest → e.left ≡ visible_tokens false e.rest
   off_too known seen = seen ∙ ap (λ (k : Bool). visible_tokens k e.rest) (known ∙ o.off)
 
-  -- behind the `)` that follows c
+  -- after the `)` that follows c
   next : (c : List Tok) → e.rest ≡ behind true (length c) q.rest → behind true 1 e.rest ≡ behind true (length c + 1) (behind false 1 (tokens_of o.all))
   next c s = ap (λ (r : List Tok). behind true 1 r) (s ∙ ap (λ (r : List Tok). behind true (length c) r) o.rest) ∙ behind_then true (length c) 1 (behind false 1 (tokens_of o.all))
 
@@ -139,13 +140,13 @@ module _ (text : List ℕ) (q e : State) (o : Opened text q) where
   inside_is : (v : ModuleTy) (s : IsModule (tokens_of o.all) v) → (annotated q).left ≡ s.tokens ++ RParen ∷ s.more
   inside_is v s = ap (λ (r : List Tok). visible_tokens true r) o.rest ∙ s.inside
 
-  -- where the text spells a module, its tokens are in front
+  -- if the text spells a module, the module's tokens are next
   pub module_stands : {P : Type 0} (v : ModuleTy) → OneCut → SpellsModule text v → ((c r : List Tok) → (annotated q).left ≡ c ++ r → module_.spells v c r → P) → P
   module_stands v one spelled f =
       let s = this_cut v one spelled in
       f s.tokens (RParen ∷ s.more) (inside_is v s) s.spelled
 
-  -- and behind them `)` alone is visible
+  -- and after them only `)` is visible
   pub module_closes : (v : ModuleTy) → OneCut → SpellsModule text v → ((c r : List Tok) → (annotated q).left ≡ c ++ r → module_.spells v c r → (annotated e).left ≡ r) → ((c : List Tok) → (annotated q).left ≡ c ++ (annotated e).left → e.rest ≡ behind true (length c) q.rest) → e.known ≡ q.known → e.left ≡ visible_tokens e.known e.rest → e.left ≡ RParen ∷ []
   module_closes v one spelled accepts follows known seen =
       let s = this_cut v one spelled in
@@ -153,12 +154,12 @@ module _ (text : List ℕ) (q e : State) (o : Opened text q) where
       let cut : (annotated q).left ≡ s.tokens ++ (annotated e).left = inside_is v s ∙ ap (λ (l : List Tok). s.tokens ++ l) (sym is) in
       off_too known seen ∙ alone_seen e.rest s.more is (ap (λ (r : List Tok). visible_tokens false r) (next s.tokens (follows s.tokens cut)) ∙ s.last)
 
--- a value that is passed on has what the call shows of it
+-- a value that is passed on keeps the facts that the call showed
 pub passed_on : {X E : Type 0} (r : Result X E) (x : X) (P : X → Type 0) (Q : Type 0) → IfOk r (λ v. v ≡ x) → IfOk r (λ _. Q) → (Q → P x) → IfOk r P
 passed_on (Ok y) x P Q is q f = subst P (sym is) (f q)
 passed_on (Err e) x P Q is q f = tt
 
--- where it isn't refused, it is passed on
+-- if the value isn't refused, the value is passed on
 pub passed_only : {X E : Type 0} (r : Result X E) (x : X) (P : X → Type 0) (Q : E → Type 0) (S : Type 0) → IfOk r (λ v. v ≡ x) → IfErr r (λ _. S → ⊥) → S → P x → MatchResult r P Q
 passed_only (Ok y) x P Q S is apart s p = subst P (sym is) p
 passed_only (Err e) x P Q S is apart s p = absurd (apart s)

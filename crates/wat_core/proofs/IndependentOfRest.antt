@@ -1,4 +1,4 @@
--- Rests, tests and productions that don't tell one end from another, up to fields and modules.
+-- Rests, and tests and productions that give the same result before every end, up to fields and modules.
 pub mod Expressions
 pub mod Fields
 pub mod Links

@@ -18,17 +18,17 @@ use Rattle.wat_core.proofs.Stands.{group_part}
 toks_from : (ls : List Entry) (i : ℕ) → tokens_of (drop i (placed ls)) ≡ toks (drop i ls)
 toks_from ls i = ap tokens_of (drop-map placed_of i ls) ∙ tokens_of-placed (drop i ls)
 
--- the tokens from the first on that is visible
+-- the tokens from the first visible token on
 pub shown_from : (known : Bool) (ls : List Entry) (at r : ℕ) → r ≡ at + hidden_count known (toks (drop at ls)) → drop r (placed ls) ≡ shown known (drop at (placed ls))
 shown_from known ls at r e =
     let ps = placed ls in
     ap (λ (k : ℕ). drop k ps) e ∙ sym (drop-drop (hidden_count known (toks (drop at ls))) at ps) ∙ ap (λ (ts : List Tok). drop (hidden_count known ts) (drop at ps)) (sym (toks_from ls at))
 
--- the token at a place, and those behind it
+-- the token at a place, and the tokens after it
 pub at_place : (ls : List Entry) (i : ℕ) → i < length ls → drop i (placed ls) ≡ placed_of (get_or ls i no_entry) ∷ drop (i + 1) (placed ls)
 at_place ls i h = drop-map placed_of i ls ∙ ap placed (drop_more ls i no_entry h) ∙ ap (λ l. placed_of (get_or ls i no_entry) ∷ l) (sym (drop-map placed_of (i + 1) ls))
 
--- none is behind the last
+-- no token is after the last token
 pub past : (ls : List Entry) (i : ℕ) → length ls ≤ i → drop i (placed ls) ≡ []
 past ls i h = drop_all i (placed ls) (omega (arith, length-map ls placed_of))
 
@@ -55,10 +55,10 @@ one_left name ls i h le = rw (at_place ls i h, past ls (i + 1) le) (first_alone 
 pub two_left : (name : List ℕ) (ls : List Entry) (i : ℕ) → i + 1 < length ls → is_open (get_or ls i no_entry).token ≡ true → begins_annotation name (tokens_of (drop i (placed ls))) ≡ begins_annotation name (LParen ∷ ((get_or ls (i + 1) no_entry).token ∷ []))
 two_left name ls i h e = rw (at_place ls i (omega arith), at_place ls (i + 1) h, open_is (get_or ls i no_entry).token e) (same_rest name (get_or ls (i + 1) no_entry).token (tokens_of (drop (i + 1 + 1) (placed ls))))
 
--- whether the group at a place begins so
+-- whether the group at a place begins with the annotation
 pub ruleset name_steps = (at_place, no_open, one_left, two_left)
 
--- ---- where a group is closed
+-- ---- the place where a group is closed
 
 pub closing_past : (ls : List Entry) (i depth : ℕ) → length ls ≤ i → closing depth (drop i (placed ls)) ≡ None
 unfolding closing

@@ -1,4 +1,4 @@
--- Where the tokens of a text stand: in order, and each parenthesis at a byte of its own.
+-- The offsets of a text's tokens: in order, and each parenthesis at a separate byte.
 use Rattle.std.proofs.Common.{◌≡◌, ℕ, ◌-◌, ◌<◌, ◌≤◌, List, [], ◌∷◌, ◌++◌, length, drop, get_or, refl, ap, sym, ◌∙◌, subst, arith, length-append, append_assoc, zero, suc, inl, inr}
 use Rattle.std.specs.Prelude.{Bool, true, false, Option, Some, None}
 use Rattle.std.specs.Str.{IsUtf8}
@@ -15,7 +15,7 @@ use Rattle.wat_core.specs.ModuleGroups.{IsPart}
 abbrev pub IsAsciiAt : List ℕ → ℕ → Type 0
 IsAsciiAt text i = (i < length text) × (get_or text i 0 < 128)
 
--- none stands before the place, and none before the one in front of it
+-- no token has an offset before the place, and none before the preceding token
 abbrev pub Stands : List ℕ → ℕ → List Placed → Type 0
 Stands text low [] = Unit {0}
 Stands text low (p ∷ ts) = (low ≤ p.offset) × (is_paren p.token ≡ true → IsAsciiAt text p.offset) × Stands text p.offset ts

@@ -33,7 +33,7 @@ kept_behind (suc most) [] (d ∷ es) g e h lt f = absurd h
 kept_behind (suc most) (w ∷ ws) [] g e h lt f = absurd h
 kept_behind (suc most) (w ∷ ws) (d ∷ es) g e h lt f = (h.0, kept_behind most ws es g e h.1 (omega arith) f)
 
--- one that isn't
+-- a fault that isn't kept
 pub dropped_behind : (most : ℕ) (ws : List Group) (es : List Error) (g : Group) → AreFaultsOf (take most ws) es → most ≤ length es → AreFaultsOf (take most (ws ++ g ∷ [])) es
 dropped_behind zero ws es g h le = h
 dropped_behind (suc most) [] [] g h le = absurd (omega arith)
@@ -41,7 +41,7 @@ dropped_behind (suc most) [] (d ∷ es) g h le = absurd h
 dropped_behind (suc most) (w ∷ ws) [] g h le = absurd h
 dropped_behind (suc most) (w ∷ ws) (d ∷ es) g h le = (h.0, dropped_behind most ws es g h.1 (omega arith))
 
--- ---- what is told of the groups
+-- ---- the results for the groups
 
 pub tells_none : {Good : List ℕ → Type 0} {text : List ℕ} (most : ℕ) (f : FieldFaults) → f.groups ≡ 0 → f.count ≡ 0 → f.faults.items ≡ [] → Tells Good text most [] f
 tells_none most f groups count items = record {
@@ -52,7 +52,7 @@ tells_none most f groups count items = record {
   faults = rw items (none_taken most);
 }
 
--- a good group behind the others
+-- a good group after the others
 pub tells_good : {Good : List ℕ → Type 0} {text : List ℕ} {most : ℕ} {gs : List Group} {f : FieldFaults} (g : Group) (new : FieldFaults) → Tells Good text most gs f → Good (bytes_of text g) → new.groups ≡ f.groups + 1 → new.count ≡ f.count → new.faults.items ≡ f.faults.items → Tells Good text most (gs ++ g ∷ []) new
 tells_good {gs = gs} g new told is groups count items = record {
   wrong = told.wrong;
@@ -62,7 +62,7 @@ tells_good {gs = gs} g new told is groups count items = record {
   faults = rw items told.faults;
 }
 
--- a wrong one
+-- a wrong group after the others
 pub tells_wrong : {Good : List ℕ → Type 0} {text : List ℕ} {most : ℕ} {gs : List Group} {f : FieldFaults} (g : Group) (new : FieldFaults) → Tells Good text most gs f → (Good (bytes_of text g) → ⊥) → new.groups ≡ f.groups + 1 → new.count ≡ f.count + 1
     → ((ws : List Group) → AreFaultsOf (take most ws) f.faults.items → AreFaultsOf (take most (ws ++ g ∷ [])) new.faults.items) → Tells Good text most (gs ++ g ∷ []) new
 tells_wrong {gs = gs} g new told is groups count faults = record {
@@ -73,7 +73,7 @@ tells_wrong {gs = gs} g new told is groups count faults = record {
   faults = faults told.wrong told.faults;
 }
 
--- the groups before a place, with those behind it
+-- the groups before a place, with the groups after it
 pub record Before (size : ℕ) (ts us : List Placed) (gs : List Group) : Type 0 where
   pub more : (hs : List Group) (left : List Placed) → GroupsTo size us hs left → GroupsTo size ts (gs ++ hs) left
 

@@ -35,9 +35,9 @@ use Rattle.wat_fields.specs.declared.tag.Tag.{Tag}
 use Rattle.wat_core.specs.declared.field.ModuleFieldOf.{ModuleFieldOf}
 use Rattle.wat_core.specs.declared.field.ModuleFieldOf.TheVariants as code
 
--- ---- what contracts see
+-- ---- views
 
--- one of thirteen kinds
+-- a field of one of thirteen kinds
 pub data ModuleFieldTy : Type 0 where
   a_type : TypeTy → ModuleFieldTy
   a_rec : List TypeTy → ModuleFieldTy
@@ -74,7 +74,7 @@ field_view (code.Data d) = a_data (data_view d)
 field_view (code.Tag t) = a_tag (tag_view t)
 field_view (code.Custom c) = a_custom (custom_view c)
 
--- what the value of its kind says
+-- the bare test of the field's kind
 abbrev pub bare_field : ModuleFieldTy → Bool
 bare_field (a_type t) = bare_type t
 bare_field (a_rec ts) = no_items ts
@@ -90,7 +90,7 @@ bare_field (a_data d) = bare_data d
 bare_field (a_tag t) = bare_tag t
 bare_field (a_custom c) = bare_custom c
 
--- ---- the grammar: the word in front, or the annotation, says which kind it is
+-- ---- the grammar: the next keyword or annotation decides the kind
 
 -- `start` idx
 unfoldable pub start : Production Idx
@@ -104,7 +104,7 @@ start_or_later_field =
     (where_else (begins_word (codes "data")) (made a_data data_segment)
     (made a_custom custom)))
 
--- Global | Export | Tag | one of the last
+-- Global | Export | Tag | start_or_later_field
 unfoldable pub global_or_later_field : Production ModuleFieldTy
 global_or_later_field =
     where_else (begins_word (codes "global")) (made a_global global)
@@ -112,7 +112,7 @@ global_or_later_field =
     (where_else (begins_word (codes "tag")) (made a_tag tag)
     start_or_later_field))
 
--- Func | Table | Memory | one of the further
+-- Func | Table | Memory | global_or_later_field
 unfoldable pub func_or_later_field : Production ModuleFieldTy
 func_or_later_field =
     where_else (begins_word (codes "func")) (made a_func func)
@@ -120,7 +120,7 @@ func_or_later_field =
     (where_else (begins_word (codes "memory")) (made a_memory memory)
     global_or_later_field))
 
--- Type | Rec | Imports | one of the others
+-- Type | Rec | Imports | func_or_later_field
 unfoldable pub module_field : Production ModuleFieldTy
 module_field =
     where_else (begins_word (codes "type")) (made a_type type_)

@@ -1,4 +1,4 @@
--- Types of which a value is a field of a module.
+-- Types whose values are fields of a module.
 use Rattle.std.specs.Prelude.{◌≡◌, List, refl}
 use Rattle.wat_tokens.specs.Parts.{made}
 use Rattle.wat_tokens.specs.Production.{Production}
@@ -6,11 +6,11 @@ use Rattle.wat_tokens.specs.Token.{Tok}
 use Rattle.wat_tokens.specs.Views.{ViewOf}
 use Rattle.wat_core.specs.Field.{ModuleFieldTy, bare_field}
 
--- Such a field is written as a value of X is, as `seen` sees it.
--- make: the field, of what contracts see of a value
--- reads: it is what is read
--- sees: a value is seen so
--- bare: it holds memory where the value does
+-- A field of this kind is spelled as a value of X is. `seen` is the view of a value as a field.
+-- make: makes a field's view from the view of a value
+-- reads: `form` reads what `g` reads, made into a field's view
+-- sees: `seen` is `make` of the value's view
+-- bare: the field is bare if and only if the value is bare
 pub record IsFieldOf {X V : Type 0} (form : Production ModuleFieldTy) (seen : X → ModuleFieldTy)
     (view : ViewOf X V) (g : Production V) : Type 0 where
   pub make : V → ModuleFieldTy
@@ -18,7 +18,7 @@ pub record IsFieldOf {X V : Type 0} (form : Production ModuleFieldTy) (seen : X 
   pub sees : (x : X) → seen x ≡ make (view.of x)
   pub bare : (v : V) → bare_field (make v) ≡ view.bare v
 
--- so is one that is made by `make` of what is read, and of what is seen
+-- a field that is made by `make`, of the value that is read and of its view, is such a field
 pub made_by : {X V : Type 0} (make : V → ModuleFieldTy) {view : ViewOf X V} {g : Production V}
     → ((v : V) → bare_field (make v) ≡ view.bare v)
     → IsFieldOf (made make g) (λ x. make (view.of x)) view g

@@ -16,9 +16,9 @@ use Rattle.wat_core.specs.declared.module.ModuleKindOf.TheVariants as code
 use Rattle.wat_core.specs.FieldGroup.{field_group}
 use Rattle.wat_core.specs.Laws.Module.{field_group_consumes}
 
--- ---- what contracts see
+-- ---- views
 
--- its fields, or the pieces of its binary form
+-- the fields of a module, or the pieces of its binary format
 pub data ModuleKindTy : Type 0 where
   text : List ModuleFieldTy → ModuleKindTy
   binary : List (List ℕ) → ModuleKindTy
@@ -62,12 +62,12 @@ fields = many more field_group field_group_consumes
 unfoldable pub pieces : Production (List (List ℕ))
 pieces = many more string (lit≤ tt)
 
--- `binary` bytes*, where `binary` comes next; else ( ModuleField )*
+-- `binary` bytes* if `binary` is next; otherwise ( ModuleField )*
 unfoldable pub module_kind : Production ModuleKindTy
 module_kind =
     where_else (begins_word (codes "binary")) (made binary (after_word (codes "binary") pieces))
     (made text fields)
 
--- `module id? name?`, and then its kind
+-- `module id? name?`, and then the contents
 unfoldable pub module_ : Production ModuleTy
 module_ = after_word (codes "module") (made (λ v. module_with v.0 v.1) (seq label module_kind))

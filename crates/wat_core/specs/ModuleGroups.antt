@@ -11,28 +11,29 @@ use Rattle.wat_core.specs.declared.module_group.Group.{Group}
 abbrev pub bytes_of : List ℕ → Group → List ℕ
 bytes_of text g = slice_range text g.from g.end
 
--- it is a part of the text that begins and ends with a character
+-- the group is a part of the text that begins and ends at character boundaries
 pub record IsPart (text : List ℕ) (g : Group) : Type 0 where
   pub order : g.from ≤ g.end
   pub begins : IsCharBoundary text g.from
   pub ends : IsCharBoundary text g.end
 
--- In a text of so many bytes the group is next, from its `(` to behind its `)`, or to the end of the
--- text where it isn't closed; the rest are the tokens behind it.
+-- In a text of `size` bytes the group is next. It goes from its `(` to its `)`, or to the end of
+-- the text if it isn't closed. `rest` has the tokens after the group.
 abbrev pub IsNext : ℕ → List Placed → Group → List Placed → Type 0
 IsNext size ts g rest =
     (inner : List Placed) × (shown true ts ≡ record { token = LParen; offset = g.from } ∷ inner)
     × (g.end ≡ end_by size (closing 0 inner)) × (rest ≡ rest_by (closing 0 inner))
 
--- The tokens begin with the groups, one behind the other; no further `(` is next in what is left.
+-- The tokens begin with the groups, one after the other. In the tokens that are left, the next
+-- visible token isn't `(`.
 pub data GroupsTo : ℕ → List Placed → List Group → List Placed → Type 0 where
   none : (size : ℕ) (ts : List Placed) → begins_lparen (seen true ts) ≡ false
       → GroupsTo size ts [] ts
   next : (size : ℕ) (ts rest left : List Placed) (g : Group) (gs : List Group)
       → IsNext size ts g rest → GroupsTo size rest gs left → GroupsTo size ts (g ∷ gs) left
 
--- The groups behind the module's head, and what is wrong behind them; a text without a head has no
--- groups.
+-- The groups after the module's head, and the offset of an error after the groups. A text without a
+-- head has no groups.
 pub data HasGroups : ℕ → List Placed → List Group → Option ℕ → Type 0 where
   headless : (size : ℕ) (ts : List Placed) → has_head ts ≡ false → HasGroups size ts [] None
   headed : (size : ℕ) (ts left : List Placed) (gs : List Group) → has_head ts ≡ true

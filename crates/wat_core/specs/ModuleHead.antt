@@ -1,4 +1,4 @@
--- A module's head, and what stands behind its groups.
+-- A module's head, and the tokens after its groups.
 use Rattle.std.specs.Prelude.{ℕ, ◌≡◌, Bool, true, false, not, ◌&&◌, List, [], ◌∷◌, Option, Some, None, MatchOption}
 use Rattle.std.specs.Prelude.{if◌then◌else◌, codes}
 use Rattle.wat_lexer.specs.Place.{offset_of}
@@ -7,50 +7,51 @@ use Rattle.wat_tokens.specs.Error.{Error, Unexpected}
 use Rattle.wat_tokens.specs.Tests.{begins_lparen, begins_word, begins_id, begins_annotation}
 use Rattle.wat_core.specs.Visible.{shown, seen, behind_one, closing, rest_by}
 
--- behind an identifier, where one is next
+-- the tokens after an identifier if an identifier is next, otherwise all tokens
 abbrev pub behind_id : List Placed → List Placed
 behind_id ts = if begins_id (seen true ts) then behind_one true ts else ts
 
--- behind a group that begins with the annotation `@name`, where one is next
+-- the tokens after a group that begins with the annotation `@name` if such a group is next,
+-- otherwise all tokens
 abbrev pub behind_name : List Placed → List Placed
 behind_name ts =
     if begins_annotation (codes "name") (seen true ts) then rest_by (closing 0 (behind_one true ts))
     else ts
 
--- behind `(`, where no annotation is known, and `module`, an identifier or none and a name or none,
--- where the five are
+-- the tokens after `(`, `module`, an optional identifier and an optional name; no annotation is
+-- known at the `(`, and the five standard annotations are known after that
 abbrev pub behind_head : List Placed → List Placed
 behind_head ts = behind_name (behind_id (behind_one true (behind_one false ts)))
 
--- they are in front, and `binary` isn't next
+-- `(` and `module` are next, and `binary` doesn't follow the head
 abbrev pub has_head : List Placed → Bool
 has_head ts =
     begins_lparen (seen false ts) && (begins_word (codes "module") (seen true (behind_one false ts))
     && not (begins_word (codes "binary") (seen true (behind_head ts))))
 
--- where the first of the tokens stands, or the end of a text of so many bytes where there is none
+-- the offset of the first token, or the end of a text of `size` bytes if there is no token
 abbrev pub place_of : ℕ → List Placed → ℕ
 place_of size [] = size
 place_of size (p ∷ ts) = p.offset
 
--- where the first of the tokens stands, where there is one
+-- the offset of the first token, if there is a token
 abbrev pub first_offset : List Placed → Option ℕ
 first_offset [] = None
 first_offset (p ∷ ts) = Some p.offset
 
--- a `)` in front
+-- the first token is `)`
 abbrev pub begins_rparen : List Tok → Bool
 begins_rparen (RParen ∷ r) = true
 begins_rparen _ = false
 
--- Where what stands behind the groups is wrong: a `)` has to be next, and then nothing, where no
--- annotation is known.
+-- The offset of an error after the groups: a `)` has to be next, and then no token that is visible
+-- without annotations.
 abbrev pub wrong_end : ℕ → List Placed → Option ℕ
 wrong_end size left =
     if begins_rparen (seen true left) then first_offset (shown false (behind_one true left))
     else Some (place_of size (shown true left))
 
--- the fault at the offset, where there is one
+-- the fault Unexpected at the offset, if there is an offset
 abbrev pub IsUnexpected : Option Error → Option ℕ → Type 0
 IsUnexpected o place =
     MatchOption o (place ≡ None) (λ e. (e.fault ≡ Unexpected) × (place ≡ Some (offset_of e.span)))

@@ -50,15 +50,15 @@ use Rattle.wat_core.specs.Module.{text, binary, module_with, module_}
 abbrev pub module_and : List Tok → List Tok
 module_and ts = Keyword (codes "module") ∷ ts
 
--- `module`, and the one group of the word and the tokens, spell a module of this field alone,
--- which nothing names
+-- `module`, and one group of the word and the tokens, spell a module with this single field and
+-- without identifier and name
 abbrev pub OneField : List ℕ → List Tok → ModuleFieldTy → Type 0
 OneField w ts f =
     Spelled module_ (module_and (group_text w ts)) (module_with no_label (text (f ∷ [])))
 
--- ---- what names a module, and how many fields it has
+-- ---- the identifier and the name of a module, and the number of its fields
 
--- `module` has no field; `module $m (@name "n")` is named
+-- `module` has no field; `module $m (@name "n")` has an identifier and a name
 abbrev pub NamedModule : Type 0
 NamedModule =
     Spelled module_ (module_and []) (module_with no_label (text []))
@@ -86,7 +86,7 @@ Binary =
 abbrev pub lone_func_text : List Tok
 lone_func_text = group_text (codes "func") []
 
--- the type of a function without parameters and results, of which nothing more is said
+-- the type of a function without parameters and results, with nothing else written
 abbrev pub plain_type : TypeTy
 plain_type =
     record {
@@ -166,7 +166,7 @@ zero_global =
 abbrev pub ZeroGlobal : Type 0
 ZeroGlobal = OneField (codes "global") value_text zero_global
 
--- `(elem func 0)` and `(data "a")` are put nowhere
+-- `(elem func 0)` and `(data "a")` are passive
 abbrev pub Segments : Type 0
 Segments =
     OneField (codes "elem") (Keyword (codes "func") ∷ Integer (codes "0") ∷ [])
@@ -174,7 +174,7 @@ Segments =
     × OneField (codes "data") (String (codes "a") ∷ [])
     (a_data (data_of no_label segments.passive (written (codes "a") ∷ [])))
 
--- `(@custom "c" "a")` is behind the last section
+-- `(@custom "c" "a")` is after the last section
 abbrev pub Customs : Type 0
 Customs =
     Spelled module_ (module_and (in_parens (Annotation (codes "custom") ∷ String (codes "c")

@@ -6,9 +6,9 @@ use Rattle.wat_tokens.specs.Sight.{visible_tokens}
 use Rattle.wat_tokens.specs.State.{behind}
 use Rattle.wat_lexer.specs.Token.{Tok, Placed, LParen, RParen, tokens_of}
 
--- Outside the module's group no annotation is known: the first visible token is `(`. Behind it the
--- five standard annotations are known: there the tokens of the module are visible, then `)`, and
--- then what comes. Behind that `)` no annotation is known again, and no token is visible.
+-- Outside the module's group no annotation is known: the first visible token is `(`. After that `(`
+-- the five standard annotations are known: the visible tokens are the tokens of the module, `)`,
+-- and any further tokens. After that `)` no annotation is known again, and no token is visible.
 pub record IsModule (t : List Tok) (m : ModuleTy) : Type 0 where
   pub first : List Tok
   pub opens : visible_tokens false t ≡ LParen ∷ first

@@ -1,4 +1,4 @@
--- What is told of a text's groups.
+-- The results for a text's groups.
 use Rattle.std.specs.Prelude.{◌≡◌, ◌≢◌, ◌≤◌, ℕ, true, List, [], ◌∷◌, length, take}
 use Rattle.wat_lexer.specs.Place.{offset_of}
 use Rattle.wat_tokens.specs.Error.{Error, Memory}
@@ -13,7 +13,7 @@ use Rattle.wat_core.specs.declared.module_group.Group.{Group}
 abbrev pub IsField : {A : Type 0} → Production A → List ℕ → Type 0
 IsField {A} g x = (v : A) × TextSpells true (paren g) x v
 
--- Of the groups of a text these are wrong, in their order; each other one is good.
+-- The second list has the wrong groups of the first list, in order. All other groups are good.
 pub data AreWrong (Good : List ℕ → Type 0) (text : List ℕ) : List Group → List Group → Type 0 where
   none : AreWrong Good text [] []
   good : (g : Group) (gs wrong : List Group) → Good (bytes_of text g)
@@ -21,19 +21,19 @@ pub data AreWrong (Good : List ℕ → Type 0) (text : List ℕ) : List Group �
   wrong : (g : Group) (gs wrong : List Group) → (Good (bytes_of text g) → ⊥)
       → AreWrong Good text gs wrong → AreWrong Good text (g ∷ gs) (g ∷ wrong)
 
--- a fault other than want of memory, within the group or at its end
+-- a fault other than Memory, within the group or at its end
 abbrev pub IsFaultOf : Group → Error → Type 0
 IsFaultOf g e = (e.fault ≢ Memory) × (g.from ≤ offset_of e.span) × (offset_of e.span ≤ g.end)
 
--- the faults are those of the groups, one of each, in their order
+-- the faults are faults of the groups, one fault for each group, in order
 abbrev pub AreFaultsOf : List Group → List Error → Type 0
 AreFaultsOf [] [] = Unit {0}
 AreFaultsOf [] (e ∷ es) = ⊥
 AreFaultsOf (g ∷ gs) [] = ⊥
 AreFaultsOf (g ∷ gs) (e ∷ es) = IsFaultOf g e × AreFaultsOf gs es
 
--- What is told of the groups: how many there are and how many of them are wrong, and the faults of
--- the first wrong ones.
+-- The results for the groups: their number, the number of wrong groups, and one fault for each of
+-- the first `most` wrong groups.
 pub record Tells (Good : List ℕ → Type 0) (text : List ℕ) (most : ℕ) (gs : List Group)
     (f : FieldFaults) : Type 0 where
   pub wrong : List Group

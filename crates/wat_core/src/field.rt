@@ -77,7 +77,7 @@ pub type ModuleField<'a> = ModuleFieldOf<
     Custom<'a>,
 >;
 
-/// `start`, and an index.
+/// Parses `start` and an index.
 #[tactic(auto, unfolding(crate::specs::Field::start))]
 fn read_start<'a>(parser: &mut Parser<'a>) -> Result<ModuleField<'a>>
     ensures reads { ReadsAt turns_too (owning field_view bare_field) (made a_start start) result
@@ -86,7 +86,7 @@ fn read_start<'a>(parser: &mut Parser<'a>) -> Result<ModuleField<'a>>
     Ok(ModuleField::Start(after_word(parser, "start")?))
 }
 
-/// The function to start with, an element or data segment, or a custom section.
+/// Parses a start function, an element segment, a data segment, or a custom section.
 #[tactic(auto, unfolding(crate::specs::Field::start_or_later_field))]
 fn read_start_or_later<'a>(parser: &mut Parser<'a>) -> Result<ModuleField<'a>>
     ensures reads { ReadsAt turns_too
@@ -105,7 +105,7 @@ fn read_start_or_later<'a>(parser: &mut Parser<'a>) -> Result<ModuleField<'a>>
     read_as::<Custom>(parser)
 }
 
-/// A global, an export, a tag, or one of the last.
+/// Parses a global, an export, a tag, or a field of `read_start_or_later`.
 #[tactic(auto, unfolding(crate::specs::Field::global_or_later_field))]
 fn read_global_or_later<'a>(parser: &mut Parser<'a>) -> Result<ModuleField<'a>>
     ensures reads { ReadsAt turns_too
@@ -124,7 +124,7 @@ fn read_global_or_later<'a>(parser: &mut Parser<'a>) -> Result<ModuleField<'a>>
     read_start_or_later(parser)
 }
 
-/// A function, a table, a memory, or one of the further.
+/// Parses a function, a table, a memory, or a field of `read_global_or_later`.
 #[tactic(auto, unfolding(crate::specs::Field::func_or_later_field))]
 fn read_func_or_later<'a>(parser: &mut Parser<'a>) -> Result<ModuleField<'a>>
     ensures reads { ReadsAt turns_too

@@ -1,4 +1,4 @@
-//! The types of which a value is a field of a module, and how a field is read as one of them.
+//! The types whose values are fields of a module, and a function that parses such a field.
 
 ghost use Rattle.std.specs.Prelude.{◌≡◌, refl};
 ghost use Rattle.wat_core.specs.Field.{ModuleFieldTy, field_view, bare_field};
@@ -30,23 +30,23 @@ use wat_links::{Custom, Export, Imports};
 use wat_tokens::{Parse, Parser, Result};
 use wat_types::{Rec, Type};
 
-/// A type of which a value is a field of a module.
+/// A type whose values are fields of a module.
 pub(crate) trait FieldOf<'a>: Parse<'a> {
-    /// How such a field is written.
+    /// The production of such a field.
     ghost form: { Production ModuleFieldTy };
 
-    /// What contracts see of the field that a value is.
+    /// The view of a value as a field.
     ghost seen: { Self → ModuleFieldTy };
 
-    /// The field that the value is.
+    /// Returns the value as a field.
     fn field(self) -> ModuleField<'a>
         ensures { field_view result ≡ seen self };
 
-    /// It is written as a value is.
+    /// The field is spelled as the value is, and its view is made from the value's view.
     ghost is_field: { IsFieldOf form seen Self.view Self.grammar };
 }
 
-/// Reads a field as the type is read.
+/// Parses a value of the type, and returns it as a field.
 #[inline(always)]
 pub(crate) fn read_as<'a, T: FieldOf<'a>>(parser: &mut Parser<'a>) -> Result<ModuleField<'a>>
     ensures reads { ReadsAt turns_too (owning field_view bare_field) T.form result parser.old

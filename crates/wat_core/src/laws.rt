@@ -1,4 +1,4 @@
-//! Laws of the grammar: functions that do nothing, whose contracts state facts about its
+//! Laws of the grammar: functions that do nothing, whose contracts state facts about the grammar's
 //! definitions.
 
 ghost use Rattle.std.specs.Prelude.{◌≡◌, ℕ, Bool, List, true};
@@ -18,8 +18,8 @@ pub use wat_mnemonics::laws::{no_prefix, one_mnemonic, words_in_order};
 use wat_tokens::Parse;
 
 /// At most one prefix of a token list spells a value, and it spells one value, spans aside. The
-/// clauses state this of every type with [`Parse`], of modules, and of what is parsed by functions
-/// alone: folded instructions, page sizes, and memory accesses of each default alignment.
+/// clauses state this for every type with [`Parse`], for modules, and for the values that only
+/// functions parse: folded instructions, page sizes, and memory accesses of each default alignment.
 #[tactic(auto, using(wat_tokens::specs::Laws::Once::reads_once))]
 pub fn one_reading<'a, T: Parse<'a>>()
     ensures value { HasOneReading T.grammar }
@@ -34,10 +34,10 @@ pub fn one_reading<'a, T: Parse<'a>>()
 /// Tokens that spell a module before one end spell it before every end, where an end is the end of
 /// the text or a `)`.
 pub fn any_rest()
-    // What tokens spell a module in front of one end they spell in front of each end.
+    // Tokens that spell a module before one end spell the same module before every end.
     ensures same { (m : ModuleTy) (c r s : List Tok) → module_.spells m c r → ends s ≡ true
         → module_.spells m c s }
-    // They spell it in front of an end alone.
+    // Tokens spell a module only before an end.
     ensures ends { (m : ModuleTy) (c r : List Tok) → module_.spells m c r → ends r ≡ true }
 {}
 

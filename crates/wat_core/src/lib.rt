@@ -3,12 +3,12 @@
 //!
 //! - [`read_module`] parses a text that is one module.
 //! - [`Module::parse`] parses a module from the tokens of a [`Parser`].
-//! - [`module_faults`] lists the first error of each invalid field of a text that isn't a module.
+//! - [`module_faults`] lists an error in each invalid field of a text that isn't a module.
 //!
 //! Indices stay as they are written: nothing is resolved, and nothing is validated.
 //!
-//! A user needs this crate alone: it re-exports the parser, the types of what is parsed, and what
-//! parses them. Other public items of the crates below are reached by the crate's name, as
+//! This crate is enough for a user: it re-exports the parser, the parsed types and their parsers.
+//! Other public items of the crates below are reached by the crate's name, for example
 //! `wat_core::wat_mnemonics::find`.
 #![tactic(auto)]
 
@@ -34,7 +34,7 @@ pub use wat_tokens::{
     one_outcome, ownership, repeat,
 };
 
-// What is read everywhere: names, indices, numbers.
+// Names, indices and numbers.
 pub use wat_tokens::{F32, F64, Id, Index, Integer, NameAnnotation, Sign};
 
 // Types.
@@ -80,13 +80,13 @@ pub use wat_instr::{
 // Expressions.
 pub use wat_expr::{BranchHint, Expression, FoldedInstruction};
 
-// What the fields of a module hold.
+// The contents of a module's fields.
 pub use wat_fields::{
     Data, DataKind, DataVal, Elem, ElemKind, ElemPayload, Func, FuncKind, Global, GlobalKind,
     Local, LocalParser, Memory, MemoryKind, Table, TableKind, Tag, TagKind,
 };
 
-// The crates below by their names, for what else is public in them.
+// The crates below by their names, for their other public items.
 pub use wat_expr;
 pub use wat_fields;
 pub use wat_instr;

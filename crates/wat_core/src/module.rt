@@ -33,8 +33,8 @@ pub struct Module<'a> {
     pub kind: ModuleKind<'a>,
 }
 
-/// Written by hand, and proved once, here. If it were derived, each crate that drops a module would
-/// prove the drop of each of its parts again, which takes the prover minutes.
+/// This implementation is written by hand, so its proof is done once. With a derived Drop, each
+/// crate that drops a module would prove the drop of each part again, which takes minutes.
 impl Drop for Module<'_> {
     fn drop(self) {
         let Module {
@@ -81,7 +81,7 @@ impl<'a> Part<'a, ModuleField<'a>> for FieldGroup {
     }
 }
 
-/// `binary` and strings, or fields in their groups.
+/// Parses `binary` and strings, or fields in their groups.
 #[tactic(auto, using(crate::specs::Laws::Module::field_group_consumes), unfolding(crate::specs::Module::module_kind, crate::specs::Module::fields, crate::specs::Module::pieces))]
 fn read_module_kind<'a>(parser: &mut Parser<'a>) -> Result<ModuleKind<'a>>
     ensures reads { ReadsAt turns_too (owning module_kind_view bare_module_kind) module_kind result
@@ -93,11 +93,11 @@ fn read_module_kind<'a>(parser: &mut Parser<'a>) -> Result<ModuleKind<'a>>
     Ok(ModuleKind::Text(all_parts::<_, FieldGroup>(parser)?))
 }
 
-/// A module that is parsed with the annotations that are known already, as a part of a larger text,
-/// such as a script. Its branch hints, name annotations and custom sections are parsed only if the
-/// parser knows the standard annotations. [`Module::parse`] turns them on itself.
+/// A module as a part of a larger text, such as a script. Its branch hints, name annotations and
+/// custom sections are parsed only if the parser already knows the standard annotations.
+/// [`Module::parse`] turns the standard annotations on itself.
 ///
-/// It is parsed from the keyword `module` to the end of its group. The caller takes the
+/// The parser reads from the keyword `module` to the end of the group. The caller takes the
 /// parentheses.
 #[derive(Drop)]
 pub struct VisibleModule<'a>(pub Module<'a>);
@@ -133,25 +133,27 @@ impl<'a> Module<'a> {
     /// and `metadata.code.branch_hint`. On return, also with an error, the parser knows the same
     /// annotations as before.
     ///
-    /// If the next tokens aren't a module, returns the first error that is met. Unexpected comes at
-    /// another token than `module`, and at a later one that begins neither a field's group nor
+    /// If the next tokens aren't a module, returns the first error that is met. Unexpected comes if
+    /// the first token isn't `module`, or at a later token that begins neither a field's group nor
     /// another part of a module. Memory never comes for a module without fields and pieces.
     #[tactic(auto, using(crate::proofs::Ends::module_steps))]
     pub fn parse(parser: &mut Parser<'a>) -> Result<Module<'a>>
-        // Of the tokens that are visible with the five names: those that were taken spell the
-        // module (`sound`); where some in front spell one, it is that one, or memory ran out
-        // (`accepts`); a fault other than Memory means that none in front do (`refused`).
+        // About the tokens that are visible with the five names: the taken tokens spell the
+        // returned module (`sound`). If a prefix of the next tokens spells a module, the result is
+        // that module, or out of memory (`accepts`). A fault other than Memory means that no prefix
+        // of the next tokens spells a module (`refused`).
         ensures reads { ReadsPrefix (owning module_view bare_module) module_ result
             (annotated parser.old) (annotated parser.new) }
-        // What is left is nothing, or begins with `)`.
+        // The left tokens that are visible with the five names are empty or begin with `)`.
         ensures ends { IfOk result (λ _. ends (annotated parser.new).left ≡ true) }
-        // What was taken is a prefix of what was in front, and the parser is directly behind it,
-        // also on a refusal (`end`, `position`). Its tokens are counted, and how they nest, and no
-        // count fell (`taken`, `within`, `peak`, `grows`).
+        // The taken tokens are a prefix of the tokens that were left, and the parser is directly
+        // after that prefix, also on a refusal (`end`, `position`). The taken tokens and their
+        // nesting are counted, and no count fell (`taken`, `within`, `peak`, `grows`).
         ensures takes { TakesPrefix (annotated parser.old) (annotated parser.new) }
-        // No loop over an expression turned more than once beyond the tokens that were taken.
+        // The loops over expressions turned at most as often as tokens were taken, or once more on
+        // an error.
         ensures turned { Turned result parser.old parser.new }
-        // What is left is visible as before.
+        // The left tokens are the visible tokens of the rest, by the annotations known on return.
         ensures visible { parser.new.left ≡ visible_tokens parser.new.known parser.new.rest }
         ensures settings { SameSettings parser.old parser.new }
     {
@@ -165,8 +167,8 @@ impl<'a> Module<'a> {
         }
     }
 
-    /// Returns the span, the identifier, the name and the contents, each as the field was. A field
-    /// can't be moved out of a module otherwise.
+    /// Returns the span, the identifier, the name and the contents, unchanged. There is no other
+    /// way to move a field out of a module.
     pub fn into_parts(
         self,
     ) -> (

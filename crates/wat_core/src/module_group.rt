@@ -14,8 +14,8 @@ use wat_lexer::tokens::Tokens;
 
 /// The part of a text that is one group, in bytes from the start of the text.
 ///
-/// It is public for the contracts of [`field_faults`](crate::field_faults) and
-/// [`module_faults`](crate::module_faults) alone. No public function takes or returns one.
+/// The type is public only for the contracts of [`field_faults`](crate::field_faults) and
+/// [`module_faults`](crate::module_faults). No public function takes or returns a `Group`.
 #[derive(Clone, Copy, Debug)]
 pub struct Group {
     /// The offset of the group's `(`.
@@ -24,7 +24,7 @@ pub struct Group {
     pub end: usize,
 }
 
-/// The place of the `)` that closes the group within which a place is; None where none does.
+/// Returns the place of the `)` that closes the group around a place; None if no `)` closes it.
 #[tactic(auto, using(crate::proofs::Places::closing_steps))]
 pub(crate) fn closing(tokens: &Tokens, from: usize) -> Option<usize>
     requires { from ≤ length tokens.now }
@@ -48,8 +48,8 @@ pub(crate) fn closing(tokens: &Tokens, from: usize) -> Option<usize>
     None
 }
 
-/// The group that is next from a place on, and the place behind it; None where no `(` is. A group
-/// that isn't closed goes to the end of the text.
+/// Returns the next group from a place on, and the place after that group; None if the next visible
+/// token isn't `(`. A group that isn't closed goes to the end of the text.
 pub(crate) fn next_group(text: &str, tokens: &Tokens, at: usize) -> Option<(Group, usize)>
     requires within { at ≤ length tokens.now }
     requires skips { AreSkips tokens.now }

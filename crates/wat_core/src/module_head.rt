@@ -1,5 +1,5 @@
-//! What a module has besides its fields: its head, and what stands behind them (Text Format,
-//! "Modules").
+//! The parts of a module besides its fields: the head, and the tokens after the fields (Text
+//! Format, "Modules").
 
 ghost use Rattle.std.specs.Prelude.{◌≡◌, ◌≤◌, MatchOption, IfSome, true, false};
 ghost use Rattle.std.specs.Prelude.{length, drop};
@@ -14,7 +14,7 @@ use crate::place::{closes_at, first_shown, id_at, name_at, opens_at, word_at};
 use wat_lexer::fault::{Error, Fault, fault_at};
 use wat_lexer::tokens::Tokens;
 
-/// The place behind an identifier, where one is next.
+/// Returns the place after an identifier if an identifier is next, otherwise the same place.
 fn behind_id(tokens: &Tokens, at: usize) -> usize
     requires within { at ≤ length tokens.now }
     requires skips { AreSkips tokens.now }
@@ -28,7 +28,8 @@ fn behind_id(tokens: &Tokens, at: usize) -> usize
     first + 1
 }
 
-/// The place behind a group that begins with the annotation `@name`, where one is next.
+/// Returns the place after a group that begins with the annotation `@name`, if such a group is
+/// next, otherwise the same place.
 fn behind_name(tokens: &Tokens, at: usize) -> usize
     requires within { at ≤ length tokens.now }
     requires skips { AreSkips tokens.now }
@@ -45,7 +46,8 @@ fn behind_name(tokens: &Tokens, at: usize) -> usize
     }
 }
 
-/// The place behind the module's head; None where none is there, or that of a module in binary.
+/// Returns the place after the module's head; None if the head is missing, or if the keyword
+/// `binary` follows the head.
 pub(crate) fn behind_head(tokens: &Tokens) -> Option<usize>
     requires { AreSkips tokens.now }
     ensures head { MatchOption result (has_head (placed tokens.now) ≡ false)
@@ -70,7 +72,8 @@ pub(crate) fn behind_head(tokens: &Tokens) -> Option<usize>
     Some(at)
 }
 
-/// The fault Unexpected at the token at a place, or at the end of the text where none is there.
+/// Returns the fault Unexpected at the token at a place, or at the end of the text if the place is
+/// after the last token.
 fn unexpected(tokens: &Tokens, at: usize, end: usize) -> Error
     ensures fault { result.fault ≡ Unexpected }
     ensures place { offset_of result.span ≡ place_of end (drop at (placed tokens.now)) }
@@ -81,7 +84,8 @@ fn unexpected(tokens: &Tokens, at: usize, end: usize) -> Error
     fault_at(Fault::Unexpected, tokens.offset(at))
 }
 
-/// What is wrong behind the groups, from a place on in a text of `end` bytes.
+/// Returns the error after the groups, from a place on in a text of `end` bytes; None if only the
+/// module's `)` follows.
 pub(crate) fn wrong_end(tokens: &Tokens, at: usize, end: usize) -> Option<Error>
     requires within { at ≤ length tokens.now }
     requires skips { AreSkips tokens.now }

@@ -11,7 +11,8 @@ use bumpalo::Bump;
 use std::alloc::Global;
 use wat_tokens::{Error, Parser, one_cut};
 
-/// Takes what closes the group of a value, and nothing may be left. The value is passed on.
+/// Takes the `)` that closes the group of a value, and checks that no visible token is left.
+/// Returns the value.
 fn closed<T: Drop>(parser: &mut Parser<'_>, value: T) -> Result<T, Error>
     ensures value { IfOk result (λ v. v ≡ value) }
     ensures stands { IfOk result (λ _. parser.old.left ≡ RParen ∷ []) }
@@ -31,7 +32,8 @@ fn closed<T: Drop>(parser: &mut Parser<'_>, value: T) -> Result<T, Error>
 /// `dylink.0` and `metadata.code.branch_hint`. Outside them no annotation is known, so an
 /// annotation's group before or after the module is skipped, whatever its name.
 ///
-/// Names and strings without escapes are slices of the text. The others are in the arena.
+/// Names and strings without escapes are slices of the text. Names and strings with escapes are in
+/// the arena.
 ///
 /// If the text isn't a module, returns the first error that is met:
 ///
@@ -42,13 +44,13 @@ fn closed<T: Drop>(parser: &mut Parser<'_>, value: T) -> Result<T, Error>
 ///
 /// Memory can come for any text.
 pub fn read_module<'a>(alloc: Global, text: &'a str, arena: &'a Bump) -> Result<Module<'a>, Error>
-    // The text spells the module that is answered.
+    // The text spells the returned module.
     ensures found { IfOk result (λ m. SpellsModule text.now (module_view m)) }
-    // Where the text spells a module, it is that one, or memory ran out.
+    // If the text spells a module, the result is that module, or out of memory.
     ensures only { (m : ModuleTy) → SpellsModule text.now m
         → MatchResult result (λ n. module_view n ≡ m) (λ e. e.fault ≡ Memory) }
 {
-    // A text has one cut. This law does nothing when it runs.
+    // A text has one cut. This law does nothing at run time.
     one_cut();
     let mut parser = Parser::new(alloc, text, arena)?;
     parser.open()?;

@@ -1,4 +1,4 @@
-//! What stands at a place of the tokens.
+//! Tests of the token at a place. A place is an index into the tokens, hidden tokens included.
 
 ghost use Rattle.std.specs.Prelude.{◌≡◌, ◌≤◌, ◌<◌, true, length, drop, codes};
 ghost use Rattle.wat_lexer.specs.Token.{tokens_of};
@@ -11,7 +11,7 @@ use wat_lexer::hidden::next_visible;
 use wat_lexer::token::Token;
 use wat_lexer::tokens::Tokens;
 
-/// The place of the first token from a place on that is visible.
+/// Returns the place of the first visible token from a place on.
 #[tactic(auto, using(crate::proofs::Places::shown_from))]
 pub(crate) fn first_shown(tokens: &Tokens, at: usize, known: bool) -> usize
     requires within { at ≤ length tokens.now }
@@ -23,7 +23,7 @@ pub(crate) fn first_shown(tokens: &Tokens, at: usize, known: bool) -> usize
     next_visible(tokens, at, known)
 }
 
-/// Whether a `(` is at the place.
+/// Whether the token at the place is `(`.
 #[tactic(auto, using(crate::proofs::Places::at_place))]
 pub(crate) fn opens_at(tokens: &Tokens, at: usize) -> bool
     ensures value { result ≡ begins_lparen (tokens_of (drop at (placed tokens.now))) }
@@ -32,7 +32,7 @@ pub(crate) fn opens_at(tokens: &Tokens, at: usize) -> bool
     at < tokens.len() && tokens.opens(at)
 }
 
-/// Whether a `)` is at the place.
+/// Whether the token at the place is `)`.
 #[tactic(auto, using(crate::proofs::Places::at_place))]
 pub(crate) fn closes_at(tokens: &Tokens, at: usize) -> bool
     ensures value { result ≡ begins_rparen (tokens_of (drop at (placed tokens.now))) }
@@ -41,7 +41,7 @@ pub(crate) fn closes_at(tokens: &Tokens, at: usize) -> bool
     at < tokens.len() && tokens.closes(at)
 }
 
-/// Whether the keyword is at the place.
+/// Whether the token at the place is the keyword.
 #[tactic(auto, using(crate::proofs::Places::at_place))]
 pub(crate) fn word_at(tokens: &Tokens, at: usize, word: &str) -> bool
     ensures value { result ≡ begins_word word.now (tokens_of (drop at (placed tokens.now))) }
@@ -56,7 +56,7 @@ pub(crate) fn word_at(tokens: &Tokens, at: usize, word: &str) -> bool
     }
 }
 
-/// Whether an identifier is at the place.
+/// Whether the token at the place is an identifier.
 #[tactic(auto, using(crate::proofs::Places::at_place))]
 pub(crate) fn id_at(tokens: &Tokens, at: usize) -> bool
     ensures value { result ≡ begins_id (tokens_of (drop at (placed tokens.now))) }
@@ -68,7 +68,7 @@ pub(crate) fn id_at(tokens: &Tokens, at: usize) -> bool
     matches!(tokens.token(at), Token::Id(_))
 }
 
-/// Whether a group that begins with the annotation `@name` is at the place.
+/// Whether a group begins at the place and its first token is the annotation `@name`.
 #[tactic(auto, using(crate::proofs::Places::name_steps))]
 pub(crate) fn name_at(tokens: &Tokens, at: usize) -> bool
     ensures value { result ≡ begins_annotation (codes "name")

@@ -27,14 +27,14 @@ use wat_tokens::whole_text::read_text;
 /// The errors of a module's fields, and an error after them.
 #[derive(Debug, Drop)]
 pub struct FieldFaults {
-    /// The first error of each invalid group, in order, up to the number that the caller gave.
+    /// An error in each invalid group, in order, up to the number that the caller gave.
     pub faults: Vec<Error>,
     /// The number of invalid groups.
     pub count: usize,
     /// The number of groups.
     pub groups: usize,
-    /// The error after the groups, if the module's `)` and then the end of the text don't follow
-    /// them.
+    /// The error after the groups, if they aren't followed by the module's `)` and then the end of
+    /// the text.
     pub beside: Option<Error>,
 }
 
@@ -46,7 +46,8 @@ fn part(text: &str, group: Group) -> &str
     &text[group.from..group.end]
 }
 
-/// The fault for which a text is no T in parentheses; None where it is one.
+/// Returns a fault if a text isn't a T in parentheses; None if the text is a T in parentheses. The
+/// only error is Memory.
 fn fault_of<'a, T: Parse<'a> + Drop>(
     alloc: Global,
     text: &'a str,
@@ -66,7 +67,7 @@ fn fault_of<'a, T: Parse<'a> + Drop>(
     }
 }
 
-/// The fault at its place in the whole text: the offset is that in the group.
+/// Moves a fault from its offset in the group to its offset in the whole text.
 fn moved(error: Error, group: Group) -> Error
     requires order { group.from ≤ group.end }
     requires fault { error.fault ≢ Memory }
@@ -76,7 +77,7 @@ fn moved(error: Error, group: Group) -> Error
     fault_at(error.fault, group.from + within)
 }
 
-/// Keeps the fault of a group, unless as many as are wanted are kept.
+/// Keeps the fault of a group, unless `most` faults are kept already.
 fn keep(faults: &mut Vec<Error>, most: usize, group: Group, error: Error) -> Result<(), AllocError>
     requires order { group.from ≤ group.end }
     requires fault { error.fault ≢ Memory }
@@ -91,7 +92,7 @@ fn keep(faults: &mut Vec<Error>, most: usize, group: Group, error: Error) -> Res
 }
 
 impl FieldFaults {
-    /// Of no groups.
+    /// The result for a text without groups.
     fn none(alloc: Global) -> FieldFaults
         ensures faults { result.faults.items ≡ [] }
         ensures count { result.count ≡ 0 }
@@ -107,7 +108,7 @@ impl FieldFaults {
     }
 }
 
-/// Reads a group, and tells of it behind what is told of the groups before it.
+/// Reads a group, and adds it to the results of the groups before.
 fn check<'a, T: Parse<'a> + Drop>(
     alloc: Global,
     text: &'a str,
@@ -141,7 +142,7 @@ fn check<'a, T: Parse<'a> + Drop>(
     }
 }
 
-/// Reads the groups from a place on, and answers the place behind them.
+/// Reads the groups from a place on. Returns their results and the place after the last group.
 fn check_all<'a, T: Parse<'a> + Drop>(
     alloc: Global,
     text: &'a str,
@@ -174,27 +175,28 @@ fn check_all<'a, T: Parse<'a> + Drop>(
     }
 }
 
-/// Lists the first error of each invalid field of a module, in order, and an error after the
-/// fields. A group is valid if it is a `T` in parentheses.
+/// Lists an error in each invalid field of a module, in order, and an error after the fields. A
+/// group is valid if it is a `T` in parentheses.
 ///
-/// The groups are those after the module's head: `(`, the keyword `module`, an optional identifier,
-/// an optional group `(@name ..)`. What is in the group `(@name ..)` isn't checked. A text without
-/// that head has no groups, nor has one with the keyword `binary` after it (WebAssembly Core
+/// The groups start after the module's head: `(`, the keyword `module`, an optional identifier, an
+/// optional group `(@name ..)`. The contents of the group `(@name ..)` aren't checked. A text has
+/// no groups if it lacks that head, or if the keyword `binary` follows the head (WebAssembly Core
 /// Specification, Text Format, "Modules").
 ///
-/// Each group is parsed as a text of its own, up to its `)`, or to the end of the text if it isn't
-/// closed. So an error never hides the next field. The five standard annotations are known. Names
-/// and strings without escapes are slices of the text. The others are in the arena.
+/// Each group is parsed as a separate text, up to its `)`, or to the end of the text if the group
+/// isn't closed. So an error never hides the next field. The five standard annotations are known.
+/// Names and strings without escapes are slices of the text. Names and strings with escapes are in
+/// the arena.
 ///
-/// All invalid groups are counted. `faults` has the errors of the first `most` of them, each with
-/// its offset in bytes from the start of the text. `beside` is Unexpected:
+/// All invalid groups are counted. `faults` has one error for each of the first `most` invalid
+/// groups, with its offset in bytes from the start of the text. `beside` is Unexpected:
 ///
-/// - at the token after the groups, if it isn't `)`;
-/// - at the token after that `)`, if there is one;
+/// - at the token after the groups, if that token isn't `)`;
+/// - at the token after that `)`, if another visible token follows;
 /// - at the length of the text, if the `)` is missing.
 ///
-/// A text without any of these errors can still not be a module: its head can be missing, or its
-/// name annotation be invalid, as in `(module (@name 1))`. [`read_module`](crate::read_module)
+/// A text with none of these errors can still be invalid: its head can be missing, or its name
+/// annotation can be invalid, as in `(module (@name 1))`. [`read_module`](crate::read_module)
 /// decides whether a text is a module.
 ///
 /// Returns an error if the text has invalid tokens, as [`cut`] does: LexChar, LexString, LexComment
@@ -205,11 +207,12 @@ pub fn field_faults<'a, T: Parse<'a> + Drop>(
     arena: &'a Bump,
     most: usize,
 ) -> Result<FieldFaults, Error>
-    // Of the groups behind the head of the text's cut, and of what stands behind them.
+    // The result describes the groups after the head of the text's cut, and the tokens after the
+    // groups.
     ensures found { IfOk result (λ f. (ts : List Placed) × (gs : List Group) × (beside : Option ℕ)
         × IsCut text.now ts × HasGroups (length text.now) ts gs beside
         × Tells (IsField T.grammar) text.now most gs f × IsUnexpected f.beside beside) }
-    // The text has no cut, and the fault is its first from the left.
+    // If the fault isn't Memory, the text has no cut, and the fault is the first from the left.
     ensures refused { IfErr result (λ e. IfFault e (FirstFault text.now e.fault (offset_of e.span)
         × ((ts : List Placed) → IsCut text.now ts → ⊥))) }
 {
@@ -229,7 +232,7 @@ pub fn field_faults<'a, T: Parse<'a> + Drop>(
     Ok(found)
 }
 
-/// Lists the first error of each invalid field of a module, and an error after the fields:
+/// Lists an error in each invalid field of a module, and an error after the fields:
 /// [`field_faults`] for the type [`ModuleField`].
 pub fn module_faults<'a>(
     alloc: Global,

@@ -1,4 +1,4 @@
--- What is printed of a module.
+-- The printed lines of a module.
 use Rattle.std.specs.Prelude.{ℕ, List, [], ◌++◌, Option, Some, None, length, flat_map, codes}
 use Rattle.std.specs.Prelude.{decimal}
 use Rattle.wat_core.specs.Field.{ModuleFieldTy, a_func, an_export}
@@ -10,22 +10,22 @@ use Rattle.wat_core.specs.ExportKind.TheVariants.{Func}
 use Rattle.wat_core.specs.Index.{Idx, number, name}
 use Rattle.wat_core.specs.Group.{FuncTy}
 
--- a name, a blank, and what is said of a type
+-- a name, a space, and the description of a type or of a function
 abbrev pub line_of : List ℕ → List ℕ → List ℕ
 line_of export about = export ++ (codes " " ++ (about ++ codes "\n"))
 
--- a name, a word, and a number or what is named
+-- a name, a word, and an index: a number or an identifier
 abbrev pub indexed_line : List ℕ → List ℕ → Idx → List ℕ
 indexed_line export word (number n) = line_of export (word ++ (codes " " ++ decimal n))
 indexed_line export word (name n) = line_of export (word ++ (codes " $" ++ n))
 
--- how many parameters and how many results
+-- the number of parameters and the number of results
 abbrev pub counts_line : List ℕ → FuncTy → List ℕ
 counts_line export t =
     line_of export (decimal (length t.params) ++ (codes " " ++ decimal (length t.results)))
 
--- Of the use of a type: how many parameters and results it has, where it is written in line; else
--- its index; and where no type is written, it has none of either.
+-- The line of a type use: the numbers of parameters and results if the type is written inline,
+-- otherwise the index of the type. If no type is written, both numbers are 0.
 abbrev pub use_line : FuncUse → List ℕ → List ℕ
 use_line u export = typed u.inline u.index
   where
@@ -34,11 +34,11 @@ use_line u export = typed u.inline u.index
     typed None (Some i) = indexed_line export (codes "type") i
     typed None None = line_of export (codes "0 0")
 
--- a line for each name under which the function is exported in line
+-- a line for each inline export of the function
 abbrev pub func_lines : FuncFieldTy → List ℕ
 func_lines f = flat_map (use_line f.ty) f.head.exports
 
--- of a function the index, of what else is exported nothing
+-- a line with the function's index for an exported function; no lines for other exports
 abbrev pub export_lines : ExportTy → List ℕ
 export_lines e = of_kind e.kind
   where
@@ -46,13 +46,13 @@ export_lines e = of_kind e.kind
     of_kind Func = indexed_line e.name (codes "function") e.item
     of_kind _ = []
 
--- of a function and of an export their lines, of every other field nothing
+-- the lines of a function or of an export; no lines for any other field
 abbrev pub field_lines : ModuleFieldTy → List ℕ
 field_lines (a_func f) = func_lines f
 field_lines (an_export e) = export_lines e
 field_lines _ = []
 
--- the lines of its fields, in order; a module in binary form has none
+-- the lines of the module's fields, in order; no lines for a module in binary format
 abbrev pub module_lines : ModuleTy → List ℕ
 module_lines m = of_kind m.kind
   where

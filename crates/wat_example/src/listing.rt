@@ -1,4 +1,4 @@
-//! The lines of what a module exports.
+//! The lines of a module's exported functions.
 
 ghost use Rattle.std.specs.Prelude.{◌≡◌, ◌++◌, OnOk, flat_map};
 ghost use Rattle.std.specs.String.{string_bytes};
@@ -42,7 +42,7 @@ fn add_line(out: &mut String, name: &str, ty: &TypeUse<FunctionType>) -> Result<
     }
 }
 
-/// Adds a line for each name under which a function is exported in line.
+/// Adds a line for each inline export of a function.
 fn add_func(out: &mut String, func: &Func) -> Result<(), AllocError>
     ensures { OnOk result (string_bytes out.new ≡ string_bytes out.old ++ func_lines
         (func_view func.now)) }
@@ -53,7 +53,7 @@ fn add_func(out: &mut String, func: &Func) -> Result<(), AllocError>
     Ok(())
 }
 
-/// Adds the line of an export, where it is of a function.
+/// Adds the line of an export, if a function is exported.
 fn add_export(out: &mut String, export: &Export) -> Result<(), AllocError>
     ensures { OnOk result (string_bytes out.new ≡ string_bytes out.old ++ export_lines
         (export_view export.now)) }

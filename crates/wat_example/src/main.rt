@@ -1,6 +1,7 @@
-//! Reads a module from standard input, and prints the functions that it exports, each on a line
-//! with the name and how many parameters and results it has, or the index of its type or of the
-//! function where these aren't written there. docs/CALLING.md goes through this program.
+//! Reads a module from standard input, and prints its exported functions, each on a separate line.
+//! A line has the export's name and the numbers of parameters and results. If the numbers aren't
+//! written with the export, the line has the index of the function's type or of the function.
+//! docs/CALLING.md goes through this program.
 #![tactic(auto)]
 
 ghost use Rattle.std.specs.Prelude.{◌≡◌, IfOk, MatchResult};
@@ -18,15 +19,15 @@ use std::io;
 use std::process::ExitCode;
 use wat_core::{Error, Fault, read_module};
 
-/// The lines of the functions that are exported by the module that the whole text spells, in its
-/// group.
+/// Returns the lines of the exported functions of a module. The whole text is the module, in
+/// parentheses.
 ///
-/// Where the text spells none, it is refused with the first fault that is met.
+/// If the text doesn't spell a module, returns the first error that is met.
 pub fn exported(alloc: Global, text: &str) -> Result<String, Error>
-    // What is answered is the lines of the module that the text spells.
+    // The result is the lines of the module that the text spells.
     ensures found { IfOk result (λ out. (m : ModuleTy) × SpellsModule text.now m
         × (string_bytes out ≡ module_lines m)) }
-    // Where the text spells a module, the answer is its lines, or memory ran out.
+    // If the text spells a module, the result is its lines, or out of memory.
     ensures only { (m : ModuleTy) → SpellsModule text.now m
         → MatchResult result (λ out. string_bytes out ≡ module_lines m) (λ e. e.fault ≡ Memory) }
 {
@@ -37,7 +38,7 @@ pub fn exported(alloc: Global, text: &str) -> Result<String, Error>
     Ok(out)
 }
 
-/// Says on standard error why nothing is printed.
+/// Prints an error to standard error, and returns exit status 2.
 fn failed(rt: &impl Eprint, words: &str) -> ExitCode {
     let _ = eprintln!(rt; "{words}");
     ExitCode::from(2)

@@ -1,4 +1,4 @@
--- Hints rise, none is lost, and an expression has no more instructions than tokens.
+-- Hints rise, no hint is lost, and an expression has no more instructions than tokens.
 use Rattle.std.proofs.Common.{◌≡◌, ℕ, ◌+◌, ◌≤◌, List, [], ◌∷◌, ◌++◌, length, Option, Some, None, refl, ap, subst, arith, length-append}
 use Rattle.wat_tokens.specs.Token.{Tok, RParen}
 use Rattle.wat_instr.specs.Instruction.{Instr, else_instr, end_instr}
@@ -29,7 +29,7 @@ skips : (b e : ℕ) (hs : List (ℕ × ℕ)) → Rises b hs e → Rises b hs (e 
 skips b e [] r = omega arith
 skips b e (h ∷ hs) r = (r.0, skips (h.0 + 1) e hs r.1)
 
--- how many instructions there are
+-- the number of instructions
 long_block : (i : Instr) (ys xs : Items) → length (unfolded (Block i ys xs)) ≡ length (unfolded ys) + length (unfolded xs) + 2
 long_block i ys xs = omega (arith, length-append (i ∷ (unfolded ys ++ end_instr ∷ [])) (unfolded xs), length-append (unfolded ys) (end_instr ∷ []))
 
@@ -74,9 +74,9 @@ spelled_hints_rise v c r (xs, l, k, e) =
     let n : 0 + length (unfolded xs) ≡ length (unfolded xs) = omega arith in
     rw e (till 0 (0 + length (unfolded xs)) (length (unfolded xs)) (hints xs 0) n (hints_rise None xs 0))
 
--- ---- none is lost
+-- ---- no hint is lost
 
--- whether a hint is directly before the first item
+-- the number of hints directly before the first item: 0 or 1
 abbrev pending : Option ℕ → ℕ
 pending None = 0
 pending (Some v) = 1

@@ -1,4 +1,4 @@
--- What is listed is listed by its flat form too.
+-- The flat form of listed items lists the same instructions.
 use Rattle.std.specs.Prelude.{if◌then◌else◌}
 use Rattle.std.proofs.Common.{◌≡◌, ℕ, ◌+◌, ◌-◌, Bool, List, [], ◌∷◌, ◌++◌, length, take, true, None, codes, refl, ap, subst, sym, ◌∙◌, append_assoc, arith, length-append, inr}
 use Rattle.std.proofs.Math.Seq.{take-append_seam}
@@ -23,13 +23,13 @@ own_is c m =
     let n : length (c ++ m) - length m ≡ length c = omega (arith, length-append c m) in
     ap (λ (k : ℕ). take k (c ++ m)) n ∙ take-append_seam c m
 
--- the own tokens are those of the text
+-- the own tokens are a prefix of the tokens and spell the instruction
 pub own_front : (i : Instr) (ts m : List Tok) → reads i ts m → (ts ≡ own ts m ++ m) × instruction.spells i (own ts m) m
 own_front i ts m h =
     let o : h.0 ≡ own ts m = sym (ap (λ (t : List Tok). own t m) h.1 ∙ own_is h.0 m) in
     (h.1 ∙ ap (λ (c : List Tok). c ++ m) o, subst (λ (c : List Tok). instruction.spells i c m) o h.2)
 
--- ---- items of instructions alone
+-- ---- items without groups and hints
 
 chained : (is js : List Instr) (ts m r : List Tok) → lists (one_by_one is) ts m → lists (one_by_one js) m r → lists (one_by_one (is ++ js)) ts r
 chained [] js ts m r l k = subst (λ (t : List Tok). lists (one_by_one js) t r) (sym l) k
@@ -46,7 +46,7 @@ no_hints (i ∷ is) b = no_hints is (b + 1)
 flat_value_is : (is : List Instr) → flat_value is ≡ value_of (one_by_one is)
 flat_value_is is = rw (unfolds is, no_hints is 0) refl
 
--- ---- the words that are added
+-- ---- the added keywords
 
 else_spelled : instruction.spells else_instr (keyword (codes "else") ∷ []) []
 unfolding instruction operand
@@ -58,7 +58,8 @@ end_spelled = (ops.Label label.end, keyword (codes "end") ∷ [], [], refl, refl
 
 -- ---- the flat form
 
--- in front of each rest that may follow, the tokens list the instructions, and may follow with it
+-- before each rest that may follow, the tokens list the instructions; the tokens with the rest may
+-- also follow
 record IsFlat (is : List Instr) (c : List Tok) : Type 0 where
   pub before : (s : List Tok) → MayFollow s → lists (one_by_one is) (c ++ s) s × MayFollow (c ++ s)
 
@@ -72,7 +73,7 @@ both {is = is} {js = js} {c = c} {d = d} p q = record {
       (rw (append_assoc c d s) (chained is js (c ++ (d ++ s)) (d ++ s) s x.0 y.0), rw (append_assoc c d s) x.1));
 }
 
--- what the law of instructions says
+-- the statement of the law of instructions
 abbrev pub Stands : Type 0
 Stands = (v : Instr) (c r s : List Tok) → instruction.spells v c r → MayFollow s → instruction.spells v c s
 
@@ -167,7 +168,7 @@ module _ (test : Tok → Bool) (p : PassesOwnAlone test) where
   pub folded_number : (i : Instr) (gs : Groups) (ts r : List Tok) (l : is_folded i gs ts r) → how_many test ts ≡ how_many test (flat_folded i gs ts r l) + how_many test r
   folded_number i gs ts r (a, b, e, h, l) = omega (arith, frames, number-append, ap (how_many test) e, own_number i a b h, groups_number gs b (RParen ∷ r) l)
 
--- instructions alone are their own flat form
+-- items without groups and hints are their own flat form
 pub already_flat : (xs : Items) (ts r : List Tok) (l : lists xs ts r) → AreInstrs xs → flat_tokens xs ts r l ++ r ≡ ts
 already_flat Nil ts r l p = sym l
 already_flat (Plain i xs) ts r (m, h, l) p = append_assoc (own ts m) (flat_tokens xs m r l) r ∙ ap (λ (t : List Tok). own ts m ++ t) (already_flat xs m r l p.1) ∙ sym (own_front i ts m h).0

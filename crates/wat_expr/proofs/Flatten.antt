@@ -1,4 +1,4 @@
--- What the items come to, turn by turn, is their unfolding and their hints, and their numbers.
+-- The output after the items, turn by turn, has their unfolded instructions, hints and numbers.
 use Rattle.std.proofs.Common.{◌≡◌, ℕ, suc, ◌+◌, ◌≤◌, [], ◌∷◌, ◌++◌, length, Option, Some, None, Bool, true, false, refl, sym, ap, subst, ◌∙◌, arith, append_assoc, length-append}
 use Rattle.std.proofs.lemmas.List.{append-nil}
 use Rattle.std.specs.Prelude.{max, if◌then◌else◌}
@@ -7,7 +7,7 @@ use Rattle.wat_expr.specs.Flat.{Flat, push, one_more}
 use Rattle.wat_expr.specs.Items.{Items, Nil, Plain, Folded, Block, IfThen, IfElse, Hinted, unfolded, hints_behind, count, depth, deep}
 use Rattle.wat_expr.specs.Progress.{TalliedFlat, with_instr, item_more, noted, emit}
 
--- as many spans as instructions, where they are kept
+-- one span for each instruction, if spans are kept
 abbrev pub Spanned : Bool → Flat → Type 0
 Spanned keeps f = f.spans ≡ (if keeps then Some (length f.instrs) else None)
 
@@ -18,11 +18,11 @@ spanned false p i f s = ap one_more s
 abbrev run : ℕ → ℕ → Option ℕ → Items → TalliedFlat → TalliedFlat
 run k h p xs f = emit k h p xs (noted k h f)
 
--- as many items, at least as deep, and as many heads at once
+-- g counts the items, at least their depth, and the maximal number of heads at once
 abbrev Numbers : ℕ → ℕ → Items → TalliedFlat → TalliedFlat → Type 0
 Numbers k h xs f g = (g.items ≡ f.items + count xs) × (max f.peak (k + depth xs) ≤ g.peak) × (g.held ≡ max f.held (h + deep xs))
 
--- from f to g the items were put out
+-- g is f with the output of the items
 abbrev Came : ℕ → ℕ → Option ℕ → Items → TalliedFlat → TalliedFlat → Type 0
 Came k h p xs f g =
     (g.out.instrs ≡ f.out.instrs ++ unfolded xs) × (g.out.hints ≡ f.out.hints ++ hints_behind p xs (length f.out.instrs)) × ((keeps : Bool) → Spanned keeps f.out → Spanned keeps g.out) × Numbers k h xs f g

@@ -1,4 +1,4 @@
--- What is read of a folded instruction, and what the loop over its groups keeps.
+-- The reading of a folded instruction, and the invariant of the loop over its groups.
 use Rattle.std.proofs.Common.{◌≡◌, suc, List, [], ◌∷◌, length, Some, None, false, refl, sym, ap, ◌∙◌, arith, ◌⊎◌, inl, inr, ℕ, ◌+◌, ◌≤◌, ◌<◌, ◌++◌, Option, Bool, true, append_assoc}
 use Rattle.wat_tokens.specs.Token.{Tok, LParen, RParen}
 use Rattle.wat_tokens.specs.Laws.Filled.{filled_behind}
@@ -28,11 +28,11 @@ use Rattle.wat_expr.proofs.Flatten.{Spanned, spanned}
 use Rattle.wat_expr.proofs.Fronts.{same_group}
 use Rattle.wat_expr.proofs.Heights.{carries_height, taken_more, taken_one}
 
--- the group that is in front is read
+-- a group at the front of the tokens is read
 pub read_folded : (i : Instr) (gs : Groups) (ts r : List Tok) → is_folded i gs ts r → folded_reads ts ≡ Some (folded_value i gs, r)
 read_folded i gs ts r (a, b, e, h, l) = rw (e, read_of i a b h, groups_at_complete gs (suc (length b)) b r (omega arith) l) refl
 
--- where no group is in front, nothing is read
+-- if no group is at the front of the tokens, nothing is read
 pub read_none : (ts : List Tok) → ((i : Instr) (gs : Groups) (r : List Tok) → is_folded i gs ts r → ⊥) → folded_reads ts ≡ None
 read_none ts never =
     by_read (folded_reads ts)
@@ -45,7 +45,7 @@ pub not_bare_of : (x : Read Expr) → ((y : Expr × List Tok) → x ≡ Some y �
 not_bare_of (Some y) k = k y refl
 not_bare_of None k = tt
 
--- it has an instruction
+-- a folded instruction is not bare
 pub read_not_bare : (ts : List Tok) → NotBare bare_expression (folded_reads ts)
 read_not_bare ts =
     not_bare_of (folded_reads ts) (λ y e. (let s = (folded_sound ts y e).2 in
@@ -73,27 +73,27 @@ pub record Sum : Type 0 where
   pub peak : ℕ
   pub held : ℕ
 
--- the turn at which a group opens, to k open groups that hold h heads
+-- the turn that opens a group; then k open groups hold h heads
 abbrev pub opened : ℕ → ℕ → Sum → Sum
 opened k h f = record { instrs = f.instrs; turns = f.turns + 1; peak = max f.peak k; held = max f.held h }
 
--- the turn at which a group of the instruction closes, to k open groups that hold h heads
+-- the turn that closes the group of the instruction; then k open groups hold h heads
 abbrev pub closed : ℕ → ℕ → Instr → Sum → Sum
 closed k h i f = record { instrs = f.instrs ++ i ∷ []; turns = f.turns + 1; peak = max f.peak k; held = max f.held h }
 
--- what groups come to, in k open groups that hold h heads
+-- the sum after the groups, in k open groups that hold h heads
 abbrev pub fold : ℕ → ℕ → Groups → Sum → Sum
 fold k h NoGroup f = f
 fold k h (Group i gs hs) f = fold k h hs (closed k h i (fold (suc k) (suc h) gs (opened (suc k) (suc h) f)))
 
--- what the loop has still to do, until r is left and the sum is o
+-- the remaining work of the loop, until r is left and the sum is o
 abbrev pub unwinds : Sum → List Tok → List OpenGroup → List Tok → Sum → Type 0
 unwinds o r [] ts f = (ts ≡ r) × (f ≡ o)
 unwinds o r (InFolded i p ∷ s) ts f =
     (gs : Groups) × (m : List Tok) × groups gs ts (RParen ∷ m) × unwinds o r s m (closed (length s) (heads_in s) i (fold (suc (length s)) (suc (heads_in s)) gs f))
 unwinds o r (l ∷ s) ts f = ⊥
 
--- from one place the loop has the same to do as from the other
+-- the remaining work is the same from both places
 pub record SameToDo (s : List OpenGroup) (ts : List Tok) (f : Sum) (s' : List OpenGroup) (ts' : List Tok) (f' : Sum) : Type 0 where
   pub forth : (o : Sum) (r : List Tok) → unwinds o r s ts f → unwinds o r s' ts' f'
   pub back : (o : Sum) (r : List Tok) → unwinds o r s' ts' f' → unwinds o r s ts f
@@ -122,7 +122,7 @@ closes_in i p s m f = record {
     forth o r (NoGroup, n, l, u) = let e : n ≡ m = cc in rw e at u
     forth o r (Group k gs hs, n, l, u) = let e = l.3 in cc
 
--- nothing is to be done in a group that can neither hold a group nor close
+-- the loop can't finish if the next tokens neither open a group nor close one
 halts : (s : List OpenGroup) (ts : List Tok) (f : Sum) → (s ≡ [] → ⊥) → ((i : Instr) (a b : List Tok) → ts ≡ LParen ∷ a → reads i a b → ⊥) → ((i : Instr) (h : Option ℕ) (q : List OpenGroup) (d : List Tok) → s ≡ InFolded i h ∷ q → ts ≡ RParen ∷ d → ⊥)
     → (o : Sum) (r : List Tok) → unwinds o r s ts f → ⊥
 halts [] ts f some open_ close_ o r u = some refl
@@ -130,7 +130,7 @@ halts (InFolded i p ∷ s) ts f some open_ close_ o r (NoGroup, m, l, u) = close
 halts (InFolded i p ∷ s) ts f some open_ close_ o r (Group j gs hs, m, l, u) = open_ j l.0 l.1 l.3 l.4
 halts (l ∷ s) ts f some open_ close_ o r u = u
 
--- what groups come to, where k open groups and h heads were noted already
+-- the sum after the groups, if k open groups and h heads were noted before
 folds : (k h : ℕ) (gs : Groups) (f : Sum) → k ≤ f.peak → h ≤ f.held
     → ((fold k h gs f).instrs ≡ f.instrs ++ unfolded_groups gs) × (f.turns + count_groups gs ≤ (fold k h gs f).turns) × ((fold k h gs f).peak ≡ max f.peak (k + depth_groups gs)) × ((fold k h gs f).held ≡ max f.held (h + depth_groups gs))
 folds k h NoGroup f p q = (sym (append-nil f.instrs), omega arith, omega arith, omega arith)
@@ -142,15 +142,15 @@ folds k h (Group i gs hs) f p q =
 
 -- ---- one group
 
--- what a group comes to, from the place behind its instruction
+-- the sum after a group, from the place after its instruction
 abbrev pub whole : Instr → Groups → Sum → Sum
 whole i gs f = closed 0 0 i (fold 1 1 gs f)
 
--- behind its instruction one group is open, in which nothing was counted yet
+-- the sum after the first instruction: one group is open, and no turn was counted
 abbrev pub start : ℕ → ℕ → ℕ → Sum
 start t p h = record { instrs = []; turns = t; peak = max p 1; held = max h 1 }
 
--- What is left to do is what the group at the front of ts asks for, which was begun with the sum g.
+-- The remaining work is the work of the group at the front of ts, which started with the sum g.
 pub record Unwinding (ts : List Tok) (g : Sum) (s : List OpenGroup) (u : List Tok) (f : Sum) : Type 0 where
   pub forth : (i : Instr) (gs : Groups) (r : List Tok) → is_folded i gs ts r → unwinds (whole i gs g) r s u f
   pub back : (o : Sum) (r : List Tok) → unwinds o r s u f → (i : Instr) × (gs : Groups) × is_folded i gs ts r × (o ≡ whole i gs g)
@@ -165,7 +165,7 @@ begins i p ts a b g e ri = record {
   back = λ o r (gs, m, l, (em, ef)). (i, gs, (a, b, e, ri, rw em at l), sym ef);
 }
 
--- what was put out, and what the parser counted
+-- the output, and the counters of the parser
 abbrev pub sum_of : Flat → State → Sum
 sum_of f b = record { instrs = f.instrs; turns = b.turns; peak = b.peak; held = b.held }
 
@@ -177,7 +177,7 @@ pub is_none : (b : Bool) (s : List OpenGroup) → MatchBool b (s ≡ []) (s ≡ 
 is_none true s m e = m
 is_none false s m e = absurd cc
 
--- folded groups, in which no hint waits
+-- the open groups are folded groups without hints
 abbrev pub Unhinted : List OpenGroup → Type 0
 Unhinted [] = Unit {0}
 Unhinted (InFolded i h ∷ s) = (h ≡ None) × Unhinted s
@@ -188,7 +188,8 @@ innermost [] u some = absurd (some refl)
 innermost (InFolded i h ∷ s) u some = (i, h, s, refl)
 innermost (l ∷ s) u some = absurd u
 
--- From the parser a on, the groups s are open, f was put out, and the parser is b.
+-- The loop started in the state a. Now the parser is in the state b, the groups s are open, and the
+-- output is f.
 pub record Going (a : State) (s : List OpenGroup) (f : Flat) (b : State) : Type 0 where
   pub exact : Unwinding a.left (start a.turns a.peak a.held) s b.left (sum_of f b)
   pub hints : f.hints ≡ []
@@ -204,7 +205,7 @@ sum x t p h = record { instrs = x; turns = t; peak = p; held = h }
 
 -- ---- a turn
 
--- from the groups s, the tokens ts and the output f on, to s', us and f'
+-- a turn leads from the groups s, the tokens ts and the output f to s', us and f'
 pub record Stepped (s s' : List OpenGroup) (ts us : List Tok) (f f' : Flat) : Type 0 where
   pub same : (t p h : ℕ) → SameToDo s ts (sum f.instrs t p h) s' us (sum f'.instrs (t + 1) (max p (length s')) (max h (heads_in s')))
   pub balanced : length s' + closes ts + opens us ≡ length s + opens ts + closes us
@@ -236,7 +237,7 @@ going_on a b t u v w s s' f f' k h et ek ev eh ew = rw (et, ew, ev, ek, eh) (λ 
       settings = (ku.0 ∙ g.settings.0, ku.1 ∙ g.settings.1);
     })
 
--- ---- behind the first instruction
+-- ---- after the first instruction
 
 pub going_begins : (a o t v w : State) (i : Instr) (s : List OpenGroup) (f : Flat) (k h : ℕ) → s ≡ InFolded i None ∷ [] → f ≡ no_output a.tracks → k ≡ length s → v ≡ record t { peak = max t.peak k } → h ≡ heads_in s → w ≡ record v { held = max v.held h }
     → a.left ≡ LParen ∷ o.left → Carries a o → Quiet a o → SameSettings a o → reads i o.left t.left → Carries o t → Stays o t → SameSettings o t → Carries v w → Going a s f w
@@ -260,11 +261,11 @@ pub going_smaller : (b t u v w : State) (s s' : List OpenGroup) (f f' : Flat) (k
     → (s ≡ [] → ⊥) → Opens (group_state s t.left f) (group_state s' u.left f') ⊎ Closes (group_state s t.left f) (group_state s' u.left f') → length w.left < length b.left
 going_smaller b t u v w s s' f f' k h et ev ew = rw (et, ew, ev) (λ some turned. (steps s s' b.left u.left f f' some turned).shorter)
 
--- where the turn couldn't be made, nothing is read
+-- if no turn is possible, nothing is read
 pub going_halts : (a b t : State) (s : List OpenGroup) (f : Flat) → t ≡ record b { turns = b.turns + 1 } → Going a s f b → (s ≡ [] → ⊥) → IsHalted (group_state s t.left f) → folded_reads a.left ≡ None
 going_halts a b t s f et = rw et (λ g some x. read_none a.left (λ i gs r k. halts s b.left (sum_of f b) some x.opens x.closes (whole i gs (start a.turns a.peak a.held)) r (g.exact.forth i gs r k)))
 
--- where no group is open, one was read
+-- if no group is open, one group was read
 pub going_ends : (a b : State) (s : List OpenGroup) (e : Expression) → Going a s (flat e) b → s ≡ [] → IsFolded a b e
 going_ends a b s e g none =
     let w = g.exact.back (sum_of (flat e) b) b.left (rw none (refl, refl)) in
@@ -284,6 +285,6 @@ pub folded_found : (a b : State) (e : Expression) → IsFolded a b e → folded_
 folded_found a b e x =
     read_folded x.instr x.within a.left b.left x.listed ∙ ap (λ (v : Expr). some_of (v, b.left)) (sym x.value)
 
--- a refusal counts at most one turn more
+-- a refusal adds at most one turn
 pub refused_first : (a o b : State) → Carries a o → o.turns ≡ a.turns → Carries o b → b.turns ≡ o.turns → b.turns + a.taken ≤ a.turns + b.taken + 1
 refused_first a o b c e d f = omega (arith, taken_more a o c, taken_more o b d, e, f)

@@ -1,4 +1,4 @@
--- What is in front of a list of items and behind it.
+-- The first tokens of a list of items, and the tokens after the list.
 use Rattle.std.specs.Prelude.{◌≡◌, List, [], ◌∷◌}
 use Rattle.std.proofs.Common.{ap, sym, ◌∙◌}
 use Rattle.wat_tokens.specs.Token.{Tok, LParen, RParen, Keyword}
@@ -16,7 +16,7 @@ reads_one i j ts m n h k =
     let e = some_is (i, m) (j, n) (sym (read_of i ts m h) ∙ read_of j ts n k) in
     (ap (λ (x : Instr × List Tok). x.0) e, ap (λ (x : Instr × List Tok). x.1) e)
 
--- ---- where a list of items ends
+-- ---- the end of a list of items
 
 pub stops_at : (ts r : List Tok) → ts ≡ r → Stops r → Stops ts
 stops_at ts r e s = rw e s
@@ -33,7 +33,7 @@ stops_no_group i [] m h s = reads_nothing i m h
 stops_no_group i (Keyword w ∷ ts) m h s = reads_not_then i ts m (rw s at h)
 stops_no_group i (t ∷ ts) m h s = word_front i t ts m h
 
--- no group is where an instruction is
+-- tokens that spell an instruction do not begin with `(`
 pub no_paren : (i : Instr) (ts a m : List Tok) → reads i ts m → ts ≡ LParen ∷ a → ⊥
 no_paren i ts a m h e = word_front i LParen a m (rw e at h)
 
@@ -41,11 +41,11 @@ pub same_group : (i j : Instr) (a b a2 b2 : List Tok) → LParen ∷ a ≡ LPare
 same_group i j a b a2 b2 e h k =
     let e2 : a2 ≡ a = cc in reads_one j i a b2 b (rw e2 at k) h
 
--- two sorts of one instruction
+-- one instruction has one sort
 pub one_sort : (i j : Instr) (k l : Sort) → j ≡ i → sort i ≡ k → sort j ≡ l → k ≡ l
 one_sort i j k l e h g = cc
 
--- a hint is no instruction
+-- the annotation of a hint begins no instruction
 pub no_hint_word : (i : Instr) (a b d : List Tok) → LParen ∷ a ≡ LParen ∷ hint_name ∷ d → reads i a b → ⊥
 no_hint_word i a b d e h =
     let e2 : a ≡ hint_name ∷ d = cc in word_front i hint_name d b (rw e2 at h)

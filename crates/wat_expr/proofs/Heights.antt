@@ -1,4 +1,4 @@
--- Heights of a stack, and tokens that are taken.
+-- Heights of a stack, and taken tokens.
 use Rattle.std.specs.Prelude.{max, length}
 use Rattle.std.proofs.Common.{◌≡◌, ℕ, ◌+◌, ◌≤◌, ◌<◌, List, [], ◌∷◌, ap, arith}
 use Rattle.wat_tokens.specs.Token.{Tok, LParen, RParen}
@@ -8,7 +8,7 @@ use Rattle.wat_tokens.specs.State.{State}
 use Rattle.wat_tokens.specs.Counts.{Counts, Carries}
 use Rattle.wat_tokens.specs.Laws.Counts.{carried, carries_of, counts_within}
 
--- how many more `(` than `)` there are is at most how the tokens rise, and nest
+-- the excess of `(` over `)` is at most `rise`, and `rise` is at most `nest`
 rises : (c : List Tok) → opens c ≤ closes c + rise c
 rises [] = omega arith
 rises (LParen ∷ c) = omega (arith, rises c)
@@ -19,7 +19,7 @@ nests : (c : List Tok) → rise c ≤ nest c
 nests [] = omega arith
 nests (x ∷ c) = omega arith
 
--- A height that is the excess of `(` over `)` in what was taken may be noted.
+-- A height may be noted if it is the excess of `(` over `)` in the taken tokens.
 pub carries_height : (a b e : State) (k : ℕ) → Carries a b → k + closes a.left + opens b.left ≡ opens a.left + closes b.left → e ≡ record b { peak = max b.peak k } → Carries a e
 unfolding Counts
 carries_height a b e k f l q =
@@ -30,15 +30,15 @@ carries_height a b e k f l q =
     let c : Counts a (record b { peak = max b.peak k }) = record { front = p.front; left = p.left; taken = p.taken; more = (p.more.0, p.more.1, omega (arith, p.more.2), p.more.3); peak = omega (arith, p.peak, n); known = p.known; position = p.position } in
     rw q (carries_of a (record b { peak = max b.peak k }) c)
 
--- what was taken stays taken
+-- taken tokens stay taken
 pub taken_more : (a b : State) → Carries a b → a.taken ≤ b.taken
 unfolding Counts
 taken_more a b f = let p = carried a b f in omega (arith, p.taken)
 
--- where less is left, more was taken
+-- if fewer tokens are left, more tokens were taken
 pub taken_one : (a b : State) → Carries a b → length b.left < length a.left → a.taken + 1 ≤ b.taken
 taken_one a b f l = let p = counts_within a b f in omega (arith, p, l)
 
--- a turn that is refused is one turn more at most than there are tokens that were taken
+-- with a refused turn, there is at most one more turn than taken tokens
 pub refused_turns : (a b t u : State) → b.turns + a.taken ≤ a.turns + b.taken → t ≡ record b { turns = b.turns + 1 } → Carries t u → u.turns ≡ t.turns → u.turns + a.taken ≤ a.turns + u.taken + 1
 refused_turns a b t u l e c f = omega (arith, l, ap (λ (y : State). y.turns) e, ap (λ (y : State). y.taken) e, taken_more t u c, f)

@@ -1,4 +1,4 @@
--- What a call answers that reads an instruction, and what it means where it reads none.
+-- The results of a call that reads an instruction, and the meaning of an error.
 use Rattle.std.proofs.Common.{◌≡◌, ◌++◌, inl, ℕ, List, [], ◌∷◌, Option, Some, None, Result, Ok, Err, false, true, refl, ap, sym, ◌∙◌}
 use Rattle.wat_mnemonics.specs.Ops.{op_row}
 use Rattle.wat_mnemonics.specs.Mnemonic.{mnemonic}
@@ -25,7 +25,7 @@ use Rattle.wat_expr.specs.declared.open_groups.Mark.{Mark}
 use Rattle.wat_expr.specs.Progress.{suits}
 use Rattle.wat_expr.specs.Taken.{TakesOp, ReadsBehind, suits_word}
 
--- ---- what is taken
+-- ---- taken tokens
 
 pub takes_op : (res : Result Op Error) (ts left : List Tok) → Gives (plain (λ h. h)) res (mnemonic.reads ts) left → TakesOp res ts left
 unfolding instruction
@@ -49,9 +49,9 @@ refused_keeps (Err e) before after read left g = g.1
 pub reads_steadily : {X : Type 0} (res : Result X Error) (before after : List Instr) (read : Read Instr) (a b : State) → PutsWhatIsRead before after read res a b → Steady a b
 reads_steadily res before after read a b r = record { counts = r.counts.0; stays = (r.cost.0, r.cost.2, r.cost.3); settings = r.settings }
 
--- ---- what it means for the instruction as a whole
+-- ---- consequences for the whole instruction
 
--- it is of its word's row
+-- the row of an instruction is the row of its mnemonic
 row_is : (h : Op) (i : Instr) (ts left : List Tok) → (behind_word h).reads ts ≡ Some (i, left) → i.row ≡ op_row h
 row_is h i ts left e =
     by_read ((operand h).reads ts)
@@ -79,18 +79,18 @@ module _ (h : Op) (ts u : List Tok) (taken : instruction.reads ts ≡ (behind_wo
   none_suited p not i m r s =
       let e = suits_row p h i (row_is h i u m (sym taken ∙ read_of i ts m r)) in cc
 
--- no word of an instruction is in front
+-- the tokens begin with no instruction
 pub no_instruction : (ts : List Tok) → instruction.reads ts ≡ None → (i : Instr) (m : List Tok) → reads i ts m → ⊥
 no_instruction ts none i m r = none_is_not (i, m) (sym none ∙ read_of i ts m r)
 
--- behind `(` is no instruction: no group can open, and none can close
+-- no instruction follows the `(`: no group can open, and no group can close
 pub no_group_turn : (s : List OpenGroup) (ts u : List Tok) (f : Flat) → ts ≡ LParen ∷ u → ((i : Instr) (m : List Tok) → reads i u m → ⊥) → IsHalted (group_state s ts f)
 no_group_turn s ts u f e never = record {
   opens = λ i a b e2 h. (let q : a ≡ u = cc in never i b (rw q at h));
   closes = λ i h q d k e2. (let bad : LParen ∷ u ≡ RParen ∷ d = sym e ∙ e2 in absurd cc);
 }
 
--- where what opens can, or else nothing can, the turn was made
+-- from the opening of a group, or its failure, to the turn
 pub group_opens : {A : Type 0} (res : Result A Error) (s t : List OpenGroup) (ts u left : List Tok) (f : Flat) → ts ≡ LParen ∷ u → OpensBehind res s t u left → GroupTurn res (group_state s ts f) (group_state t left f)
 group_opens (Ok x) s t ts u left f e (i, r, q) = inl (i, u, e, r, q, refl)
 group_opens (Err x) s t ts u left f e never = λ n. no_group_turn s ts u f e (never n)

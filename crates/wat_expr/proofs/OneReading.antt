@@ -1,4 +1,4 @@
--- What is listed is listed in one way, and has one flat form.
+-- Listed items have one reading and one flat form.
 use Rattle.std.proofs.Common.{◌≡◌, suc, List, ◌∷◌, ◌++◌, length, true, sym, ap, subst, ◌∙◌, arith, refl}
 use Rattle.std.proofs.lemmas.List.{append_cancel_right}
 use Rattle.wat_tokens.specs.Laws.Production.{some_is}
@@ -13,7 +13,7 @@ use Rattle.wat_expr.specs.Items.{reads, Items, lists, Nil, Plain, Folded, Block,
 use Rattle.wat_expr.specs.Laws.Reading.{items_at_complete, stops_end}
 use Rattle.wat_expr.specs.FlatForm.{own, flat_tokens}
 
--- where both lists end at such a place, they are one
+-- if both lists end where a list of items can end, the lists are equal
 pub one_items : (xs ys : Items) (ts r s : List Tok) → Stops r → Stops s → lists xs ts r → lists ys ts s → (xs ≡ ys) × (r ≡ s)
 one_items xs ys ts r s p q l k =
     let a = items_at_complete xs (suc (length ts)) ts r (omega arith) p l in

@@ -1,4 +1,4 @@
--- The open groups and what they are kept as have the same numbers.
+-- The open groups have the same numbers as their stored lists.
 use Rattle.std.proofs.Common.{◌≡◌, ◌<◌, suc, List, [], ◌∷◌, length, Some, refl, ap, ◌∙◌, arith}
 use Rattle.std.proofs.lemmas.List.{length-reverse, length-map}
 use Rattle.std.specs.Prelude.{map, reverse}
@@ -31,13 +31,13 @@ height_is ks hs ms e = (kept_as (reverse ks) (reverse (seen hs)) (reverse ms) e)
 pub held_is : (ks : List Kind) (hs : List Instruction) (ms : List Mark) → EachHolds (reverse ks) (reverse (seen hs)) (reverse ms) → heads_in (open_groups (reverse ks) (reverse (seen hs)) (reverse ms)) ≡ length hs
 held_is ks hs ms e = (kept_as (reverse ks) (reverse (seen hs)) (reverse ms) e).1 ∙ length-reverse (seen hs) ∙ length-map hs instruction_view
 
--- where there is a kind in front, something is open
+-- if there is an innermost kind, a group is open
 pub top_some : (k : Kind) (s : List OpenGroup) → TopIs (Some k) s → s ≡ [] → ⊥
 top_some kind.Folded s t e = let f = t.3 in cc
 top_some kind.If s t e = let f = t.3 in cc
 top_some k s t e = let f = t.1 in cc
 
--- where something is open there is a kind
+-- if a group is open, there is a kind
 pub some_kind : (ks : List Kind) (hs : List Instruction) (ms : List Mark) → (open_groups (reverse ks) (reverse (seen hs)) (reverse ms) ≡ [] → ⊥) → 0 < length ks
 some_kind [] hs ms some = absurd (some refl)
 some_kind (k ∷ ks) hs ms some = omega arith

@@ -1,4 +1,4 @@
--- Turns at an instruction that is read behind its word, and at the end of a group.
+-- Turns at an instruction whose operand is read after its mnemonic, and at the end of a group.
 use Rattle.std.proofs.Common.{◌≡◌, ◌++◌, ℕ, Bool, true, false, List, [], ◌∷◌, Option, Some, None, Result, Ok, Err, MatchResult, refl, subst, ap, sym, ◌∙◌}
 use Rattle.std.specs.Prelude.{codes}
 use Rattle.wat_mnemonics.specs.Ops.{op_row}
@@ -22,12 +22,12 @@ use Rattle.wat_expr.proofs.Turns.{at, inside, put, closed, CanClose, no_plain, t
 
 -- ---- an instruction
 
--- where it was read the turn was made, and where it was not, but for memory, nothing could be
+-- if the instruction was read, the turn was made; with an error other than Memory, s is stuck
 answers : {A : Type 0} {Then : Instr → Type 0} {s t : LoopState} (h : Op) (u m : List Tok) (res : Result A Error) → ReadsBehind h Then res u m → ((i : Instr) → (behind_word h).reads u ≡ Some (i, m) → Then i → Turn s t) → ((behind_word h).reads u ≡ None → Stuck s) → TurnAnswers res s t
 answers h u m (Ok x) (i, k, q) made stuck = made i k q
 answers h u m (Err e) r made stuck = λ n. stuck (r n)
 
--- the group that opens is of the kind of the instruction's sort
+-- the kind of the opened group is the kind for the sort of the instruction
 inside_holder : (b : Bool) (i : Instr) (m : Mark) (s : List OpenGroup) → open_groups (holder b ∷ []) (i ∷ []) (m ∷ []) ++ s ≡ inside (sort_of false b) i m.hint ∷ s
 inside_holder true i m s = refl
 inside_holder false i m s = refl
@@ -37,26 +37,26 @@ put_holder true p i f = refl
 put_holder false p i f = refl
 
 module _ {A : Type 0} (res : Result A Error) (h : Op) (s : List OpenGroup) (p after : Option ℕ) (ts u m : List Tok) (f g : Flat) (taken : instruction.reads ts ≡ (behind_word h).reads u) (suited : suits_word p h ≡ true) (gone : after ≡ None) where
-  -- alone
+  -- an instruction outside parentheses
   pub plain_read : TakesPlain s → (((i : Instr) (n : List Tok) → reads i ts n → ⊥) → Stuck (at s p ts f)) → ReadsBehind h (λ i. g ≡ push p i f) res u m → TurnAnswers res (at s p ts f) (at s after m g)
   plain_read a stuck r =
       answers h u m res r
       (λ i k q. turn_plain (Ok (tt {0})) s p after i ts m f g a (read_whole h ts u taken i m k) (read_suits h ts u taken p i m k ∙ suited) gone q)
       (λ none. stuck (none_whole h ts u taken none))
 
-  -- of a block
+  -- the instruction of a block
   pub block_read : (i : Instr) (new : List OpenGroup) → IsOpen s → is_block (op_row h) ≡ true → (behind_word h).reads u ≡ Some (i, m) → g ≡ push p i f → MatchResult res (λ _. new ≡ InBlock ∷ s) (λ e. e.fault ≡ Memory) → TurnAnswers res (at s p (LParen ∷ ts) f) (at new after m g)
   block_read i new a b k q r =
       turn_group res IsBlock s new p after i ts m f g (sort_block i (ap is_block (read_row h ts u taken i m k) ∙ b)) a (read_whole h ts u taken i m k) (read_suits h ts u taken p i m k ∙ suited) gone q r
 
-  -- of a group that it waits in
+  -- an instruction that waits in its group
   pub group_read : (new : List OpenGroup) (mark : Mark) → IsOpen s → is_block (op_row h) ≡ false → mark.hint ≡ p → g ≡ f → (((i : Instr) (n : List Tok) → reads i ts n → ⊥) → Stuck (at s p (LParen ∷ ts) f)) → ReadsBehind h (λ i. new ≡ open_groups (holder (is_if (op_row h)) ∷ []) (i ∷ []) (mark ∷ []) ++ s) res u m → TurnAnswers res (at s p (LParen ∷ ts) f) (at new after m g)
   group_read new mark a b hinted same stuck r =
       answers h u m res r
       (λ i k q. turn_group (Ok (tt {0})) (sort_of false (is_if (op_row h))) s new p after i ts m f g (rw (read_row h ts u taken i m k, b) refl) a (read_whole h ts u taken i m k) (read_suits h ts u taken p i m k ∙ suited) gone (same ∙ sym (put_holder (is_if (op_row h)) p i f)) (q ∙ (inside_holder (is_if (op_row h)) i mark s ∙ ap (λ (y : Option ℕ). inside (sort_of false (is_if (op_row h))) i y ∷ s) hinted)))
       (λ none. stuck (none_whole h ts u taken none))
 
--- no instruction where one is needed
+-- an instruction is needed, and something else is next
 pub no_plain_here : (s : List OpenGroup) (p : Option ℕ) (ts : List Tok) (f : Flat) → ends ts ≡ false → ((d : List Tok) → ts ≡ LParen ∷ d → ⊥) → (TakesPlain s → (i : Instr) (m : List Tok) → reads i ts m → suits p i ≡ true → ⊥) → Stuck (at s p ts f)
 no_plain_here s p ts f more no_group never = no_plain s p ts f no_group (λ n d q. let k = ap ends q in cc) (λ n e. cc) never
 
@@ -68,7 +68,7 @@ text_ends s p (t ∷ ts) f e no_close some = absurd cc
 
 -- ---- the end of a group
 
--- the groups at whose end nothing is added, and those that get an `end`
+-- the groups that get no `end`, and the groups that get an `end`
 abbrev pub ClosesAlone : Kind → Type 0
 ClosesAlone kind.Folded = Unit {0}
 ClosesAlone kind.Arm = Unit {0}
@@ -112,11 +112,11 @@ pub close_if : (l : OpenGroup) (gs s : List OpenGroup) (p : Option ℕ) (m : Lis
 close_if (InIf i h) gs s p m f e k = if_close gs s p h i m f e
 close_if l gs s p m f e k = absurd cc
 
--- what is taken off is the innermost group
+-- the removed group is the innermost group
 taken_off : (k : Kind) (old new s : List OpenGroup) (l : OpenGroup) (f g : Flat) → Pops (Ok k) old new f g → old ≡ l ∷ s → (new ≡ s) × (g ≡ released l f)
 taken_off k old new s l f g (m, e2, is, q) e = let same : m ≡ l = cc in (cc, q ∙ ap (λ (y : OpenGroup). released y f) same)
 
--- (then, which an `if` was open for
+-- (then, in the open group of an `if`
 pub then_read : {A : Type 0} (res : Result A Error) (k : Kind) (gs left s new mid : List OpenGroup) (p h : Option ℕ) (i : Instr) (m : List Tok) (f g : Flat) → p ≡ None → gs ≡ InIf i h ∷ s → Pops (Ok k) gs left f g → mid ≡ AfterThen ∷ left → MatchResult res (λ _. new ≡ InArm ∷ mid) (λ e. e.fault ≡ Memory) → TurnAnswers res (at gs p (LParen ∷ keyword (codes "then") ∷ m) f) (at new p m g)
 then_read res k gs left s new mid p h i m f g none e o n r =
     let x = taken_off k gs left s (InIf i h) f g o e in

@@ -1,4 +1,4 @@
--- Texts as tokens, and the expressions that they spell: what is read of them.
+-- Texts as tokens: they spell the expressions of the facts.
 use Rattle.std.proofs.Common.{◌≡◌, ℕ, List, [], ◌∷◌, Some, None, refl, subst, sym, arith}
 use Rattle.std.specs.Prelude.{codes, pos}
 use Rattle.std.proofs.lemmas.List.{append-nil}
@@ -36,13 +36,13 @@ use Rattle.wat_expr.specs.Items.{Items, Nil, Plain, Folded, Block, IfThen, IfEls
 use Rattle.wat_expr.specs.Laws.Facts.{reads_of}
 use Rattle.wat_expr.specs.Rows.{const_of, plain_of, indexed_of, opening_of, closing_of, OperandsFirst, BothArms, HintBehindOperand, BlockInFold, HintBehindBlock}
 
--- ---- instructions in front of any rest
+-- ---- instructions before any rest
 
 front : (h : Op) (w : List ℕ) → op_word h ≡ w → (o : Operand) (t r : List Tok)
     → (operand h).reads t ≡ Some (o, r) → reads (instr_of h o) (Keyword w ∷ t) r
 front h w k o t r e = reads_of (instr_of h o) (Keyword w ∷ t) r (instruction_read h w k o t r e)
 
--- a word alone
+-- an instruction without an operand
 plain : (op : ScalarOp) (w : List ℕ) → op_word (word.Scalar op) ≡ w → (r : List Tok)
     → reads (plain_of op) (Keyword w ∷ r) r
 unfolding operand
@@ -54,25 +54,25 @@ const : (d : List ℕ) (n : ℕ) (r : List Tok)
     → reads (const_of n) (Keyword (codes "i32.const") ∷ Integer d ∷ r) r
 const d n r e = front word.i32_const (codes "i32.const") refl (operands.integer (pos n)) (Integer d ∷ r) r e
 
--- a word and the index 0
+-- a mnemonic and the index 0
 indexed_by_0 : (op : IndexedOp) (w : List ℕ) → op_word (word.Indexed op) ≡ w → (r : List Tok)
     → reads (indexed_of op 0) (Keyword w ∷ Integer (codes "0") ∷ r) r
 unfolding operand read
 indexed_by_0 op w k r = front (word.Indexed op) w k (operands.one_index (number 0)) (Integer (codes "0") ∷ r) r refl
 
--- `block` or `if` in front of tokens that begin no label and no type
+-- `block` or `if` before tokens that begin no label and no type
 opening : (op : BlockOp) (w : List ℕ) → op_word (word.Block op) ≡ w → (r : List Tok)
     → (operand (word.Block op)).reads r ≡ Some ((opening_of op).operand, r)
     → reads (opening_of op) (Keyword w ∷ r) r
 opening op w k r e = front (word.Block op) w k (opening_of op).operand r r e
 
--- `else` or `end` in front of tokens that begin no label
+-- `else` or `end` before tokens that begin no label
 closing : (op : LabelOp) (w : List ℕ) → op_word (word.Label op) ≡ w → (r : List Tok)
     → (operand (word.Label op)).reads r ≡ Some (operands.label None, r)
     → reads (closing_of op) (Keyword w ∷ r) r
 closing op w k r e = front (word.Label op) w k (operands.label None) r r e
 
--- ---- from items and groups to what is spelled
+-- ---- from items and groups to spelled values
 
 listed : (xs : Items) (ts : List Tok) → lists xs ts [] → Spelled expression ts (value_of xs)
 unfolding expression

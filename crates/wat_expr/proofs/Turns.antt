@@ -1,4 +1,4 @@
--- Turns: each leaves as much to do as there was, and where one is refused nothing could be read.
+-- Turns: each turn keeps the remaining work; if a turn is refused, the state is stuck.
 use Rattle.std.proofs.Common.{◌≡◌, ◌||◌, ◌==◌, ℕ, Bool, true, false, refl, subst, inl, inr, ◌<◌, List, [], ◌∷◌, length, Option, Some, None, sym, suc, ◌≤◌, Result, Ok, Err, MatchResult, arith}
 use Rattle.std.proofs.lemmas.Bool.{eqb-true}
 use Rattle.wat_instr.specs.Instruction.{Instr, is_block, is_if, is_br_if, end_instr, else_instr}
@@ -21,11 +21,11 @@ if_either false true c e = absurd cc
 if_either false false true e = refl
 if_either false false false e = absurd cc
 
--- an `if` can be behind a hint
+-- an `if` can follow a hint
 pub if_branch : (i : Instr) → sort i ≡ IsIf → is_branch i ≡ true
 if_branch i e = if_either (is_br_if i.row) (is_block i.row) (is_if i.row) e
 
--- so can a folded `br_if`
+-- a folded `br_if` can follow a hint
 pub folded_branch : (i : Instr) → is_br_if i.row ≡ true → is_branch i ≡ true
 folded_branch i e = rw e refl
 
@@ -35,15 +35,15 @@ other_either false true c e h = absurd cc
 other_either false false true e h = absurd cc
 other_either false false false e h = absurd cc
 
--- no other folded instruction can
+-- no other folded instruction can follow a hint
 pub branch_folded : (i : Instr) → sort i ≡ IsOther → is_branch i ≡ true → is_br_if i.row ≡ true
 branch_folded i e h = other_either (is_br_if i.row) (is_block i.row) (is_if i.row) e h
 
--- the row m opens what the row n does
+-- if the row n opens a block, the equal row m opens a block
 same_sort : (n m : ℕ) → (n == m) ≡ true → sort_of (is_block n) (is_if n) ≡ IsBlock → sort_of (is_block m) (is_if m) ≡ IsBlock
 same_sort n m e s = subst (λ (k : ℕ). sort_of (is_block k) (is_if k) ≡ IsBlock) (eqb-true n m e) s
 
--- no block can
+-- no block can follow a hint
 pub branch_block : (i : Instr) → sort i ≡ IsBlock → is_branch i ≡ true → ⊥
 branch_block i s h =
     by_test (is_br_if i.row)
@@ -59,15 +59,15 @@ any_items (IfThen i ops th xs) = (tt, any_items xs)
 any_items (IfElse i ops th el xs) = (tt, any_items xs)
 any_items (Hinted v xs) = (tt, any_items xs)
 
--- what finishes from the open groups s
+-- the remaining items and the condition after them, with the open groups s
 abbrev pub Rest : TalliedFlat → List Tok → List OpenGroup → Option ℕ → After
 Rest o r s p = Open (TakesPlain s) (IsOpen s) (after_open_group o r s) (length s) (heads_in s) p
 
--- the output changes, and the open groups are s
+-- the tallied output with the new output g, and the open groups s
 abbrev pub goes : List OpenGroup → Flat → TalliedFlat → TalliedFlat
 goes s g f = noted (length s) (heads_in s) (record { out = g; items = f.items; peak = f.peak; held = f.held })
 
--- the open group that a group opens, and the output there
+-- the open group of a group, and the output after it opens
 abbrev pub inside : Sort → Instr → Option ℕ → OpenGroup
 inside IsOther i p = InFolded i p
 inside IsBlock i p = InBlock
@@ -78,7 +78,7 @@ put IsOther p i f = f
 put IsBlock p i f = push p i f
 put IsIf p i f = f
 
--- the output where an open group closes
+-- the output after an open group closes
 abbrev pub closed : OpenGroup → Flat → Flat
 closed (InFolded i p) f = push p i f
 closed (InIf i p) f = f
@@ -103,7 +103,7 @@ plain_is_open [] h = tt
 plain_is_open (InIf i p ∷ s) h = tt
 plain_is_open (l ∷ s) h = h
 
--- an item fits where its instruction suits
+-- an item fits the pending hint if its instruction suits the hint
 fits_by : (p : Option ℕ) (i : Instr) (xs : Items) → (is_branch i ≡ true → BeginsWithBranch xs) → suits p i ≡ true → Fits p xs
 fits_by None i xs k t = tt
 fits_by (Some v) i xs k t = k t
@@ -116,7 +116,7 @@ no_hint : (p : Option ℕ) (xs : Items) → (BeginsWithBranch xs → ⊥) → Fi
 no_hint None xs k f = refl
 no_hint (Some v) xs k f = absurd (k f)
 
--- what is in front: nothing, an instruction, a group or a hint
+-- the cases of the next tokens: the end, an instruction, a group or a hint
 pub next : {C : Type 0} (o : TalliedFlat) (r : List Tok) (s : List OpenGroup) (p : Option ℕ) (ts : List Tok) (f : TalliedFlat)
     → (p ≡ None → after_open_group o r s ts f → C)
     → ((i : Instr) (m : List Tok) → TakesPlain s → reads i ts m → suits p i ≡ true → Rest o r s None m (goes s (push p i f.out) (item_more f)) → C)
@@ -137,7 +137,7 @@ next o r s p ts f over plain group hint (IfElse j ops th el xs, u, l, fit, only,
     (ops, _, l.9, tt, l.8, (l.2, refl, (th, _, l.10, tt, any_items th, (LParen ∷ keyword (codes "else") ∷ l.3, refl, inr (l.3, refl, (el, _, l.11, tt, any_items el, (RParen ∷ l.4, refl, (l.4, refl, (xs, u, l.12, tt, only.1, z)))))))))
 next o r s p ts f over plain group hint (Hinted v xs, u, l, fit, only, z) = hint v l.0 only.0 (no_hint p (Hinted v xs) (λ b. b) fit) l.2 l.1 (xs, u, l.4, l.3, only.1, z)
 
--- where no item can be, the list ends
+-- if no item is possible, the list ends
 pub ended : (o : TalliedFlat) (r : List Tok) (s : List OpenGroup) (p : Option ℕ) (ts : List Tok) (f : TalliedFlat) → (IsOpen s → Stops ts) → Rest o r s p ts f → (p ≡ None) × after_open_group o r s ts f
 ended o r s p ts f st =
     next o r s p ts f (λ e k. (e, k)) (λ j m a h t z. absurd (stops_no_word j ts m h (st (plain_is_open s a))))
@@ -189,9 +189,9 @@ turn_is : (s t : LoopState) (n : ℕ → ℕ) → ((m : ℕ) → n m ≤ suc m) 
     → length t.left < length s.left → Balanced (length s.open_groups) s.left (length t.open_groups) t.left → Turn s t
 turn_is s t n le forth back shorter balanced = record { same = λ c. (n c.items, le c.items, record { forth = forth c; back = back c }); shorter = shorter; balanced = balanced }
 
--- ---- what each exit owes
+-- ---- obligations of each exit
 
--- where memory didn't run out, the turn was made
+-- unless memory ran out, the turn was made
 moved : {A : Type 0} (res : Result A Error) {C : Type 0} {s t : LoopState} → MatchResult res (λ _. C) (λ e. e.fault ≡ Memory) → (C → Turn s t) → TurnAnswers res s t
 moved (Ok x) m k = k m
 moved (Err x) m k = λ n. absurd (n m)
@@ -241,7 +241,7 @@ sort_if i b c = rw (b, c) refl
 pub sort_other : (i : Instr) → is_block i.row ≡ false → is_if i.row ≡ false → sort i ≡ IsOther
 sort_other i b c = rw (b, c) refl
 
--- a hint waits where the list ends
+-- a hint waits at the end of the list
 pub unpending : (s : List OpenGroup) (p : Option ℕ) (v : ℕ) (ts : List Tok) (f : Flat) → p ≡ Some v → (IsOpen s → Stops ts) → Stuck (at s p ts f)
 unpending s p v ts f e st c o r k = let n = (ended o r s p ts (with_tallies f c) st k).0 in cc
 
@@ -253,12 +253,12 @@ if_close open_groups s p h i m f e = rw e (λ c o r k. let q = (ended o r (InIf 
 pub too_many : (open_groups s : List OpenGroup) (p : Option ℕ) (m : List Tok) (f : Flat) → open_groups ≡ AfterElse ∷ s → Stuck (at open_groups p (LParen ∷ m) f)
 too_many open_groups s p m f e = rw e (λ c o r k. let q = (ended o r (AfterElse ∷ s) p _ (with_tallies f c) (λ a. absurd a) k).1.1 in cc)
 
--- behind (then ..) only (else opens
+-- after (then ..), only (else can open
 pub else_wanted : (open_groups s : List OpenGroup) (p : Option ℕ) (m : List Tok) (f : Flat) → open_groups ≡ AfterThen ∷ s → ((d : List Tok) → m ≡ keyword (codes "else") ∷ d → ⊥) → Stuck (at open_groups p (LParen ∷ m) f)
 else_wanted open_groups s p m f e never =
     rw e (λ c o r k. elim (ended o r (AfterThen ∷ s) p _ (with_tallies f c) (λ a. absurd a) k).1 [ inl x ↦ (let q = x.1 in cc) | inr x ↦ never x.0 (let q = x.1 in cc) ])
 
--- what behind an open group begins with
+-- the first tokens after the items of an open group
 no_behind : (s : List OpenGroup) (o : TalliedFlat) (r ts : List Tok) (f : TalliedFlat) → ((i : Instr) (h : Option ℕ) (q : List OpenGroup) (d : List Tok) → s ≡ InIf i h ∷ q → ts ≡ LParen ∷ keyword (codes "then") ∷ d → ⊥) → ((IsOpen s → ⊥) → (d : List Tok) → ts ≡ LParen ∷ d → ⊥)
     → ((s ≡ [] → ⊥) → (d : List Tok) → ts ≡ RParen ∷ d → ⊥) → (s ≡ [] → ends ts ≡ true → ⊥) → after_open_group o r s ts f → ⊥
 no_behind [] o r ts f no_then no_else no_close no_end k = no_end refl k.0
@@ -267,12 +267,12 @@ no_behind (AfterThen ∷ s) o r ts f no_then no_else no_close no_end (inl k) = n
 no_behind (AfterThen ∷ s) o r ts f no_then no_else no_close no_end (inr k) = no_else (λ a. a) _ k.1
 no_behind (l ∷ s) o r ts f no_then no_else no_close no_end k = no_close (λ e. cc) k.0 k.1
 
--- no instruction where one is needed
+-- an instruction is needed, and something else is next
 pub no_plain : (s : List OpenGroup) (p : Option ℕ) (ts : List Tok) (f : Flat) → ((d : List Tok) → ts ≡ LParen ∷ d → ⊥) → ((s ≡ [] → ⊥) → (d : List Tok) → ts ≡ RParen ∷ d → ⊥) → (s ≡ [] → ends ts ≡ true → ⊥) → (TakesPlain s → (i : Instr) (m : List Tok) → reads i ts m → suits p i ≡ true → ⊥) → Stuck (at s p ts f)
 no_plain s p ts f no_group no_close no_end never c o r =
     next o r s p ts _ (λ e. no_behind s o r ts (with_tallies f c) (λ i h q d e. no_group _) (λ n. no_group) no_close no_end) (λ i m a h t z. never a i m h t) (λ k i a b g e h t q z. no_group a e) (λ v d g e lt q z. no_group _ q)
 
--- what opens is no instruction, no hint and no (then
+-- the tokens after `(` begin with no instruction, no hint and no `then`
 pub no_item : (s : List OpenGroup) (p : Option ℕ) (u : List Tok) (f : Flat) → IsOpen s → ((d : List Tok) → u ≡ hint_name ∷ d → ⊥) → ((ts : List Tok) → u ≡ keyword (codes "then") ∷ ts → (i : Instr) (h : Option ℕ) (q : List OpenGroup) → s ≡ InIf i h ∷ q → ⊥) → ((i : Instr) (m : List Tok) → reads i u m → suits p i ≡ true → ⊥) → Stuck (at s p (LParen ∷ u) f)
 no_item s p u f g no_hint no_then never c o r =
     next o r s p _ _ (λ e. no_behind s o r _ (with_tallies f c) (λ i h q d e e2. no_then d (cc) i h q e) (λ n. absurd (n g)) (λ n d e. cc) (λ e e2. cc)) (λ i m a h t z. word_front i LParen u m h)

@@ -1,4 +1,4 @@
--- What the loop over an expression's tokens keeps, and what it says at the end.
+-- The invariant of the loop over the tokens of an expression, and its consequences at the end.
 use Rattle.std.specs.Prelude.{◌≢◌, max, map, if◌then◌else◌}
 use Rattle.std.proofs.Common.{◌≡◌, ℕ, ◌+◌, ◌≤◌, List, [], ◌∷◌, length, Option, Some, None, Bool, true, false, Result, Ok, Err, refl, sym, ap, subst, ◌∙◌, arith}
 use Rattle.std.proofs.lemmas.List.{length-map}
@@ -31,18 +31,18 @@ use Rattle.wat_expr.specs.Laws.Facts.{lists_between}
 use Rattle.wat_expr.specs.Laws.Reading.{stops_end}
 use Rattle.wat_expr.specs.ExpressionProduction.{expression}
 
--- what was counted, with n items
+-- the counters, with n items
 abbrev pub counters : ℕ → State → Tallies
 counters n b = record { items = n; peak = b.peak; held = b.held }
 
--- before anything was read
+-- the tallied output before any token is read
 abbrev pub first : State → TalliedFlat
 first a = with_tallies (no_output a.tracks) (counters 0 a)
 
 abbrev pub start : State → TalliedState
 start a = state_with (at [] None a.left (no_output a.tracks)) (counters 0 a)
 
--- From the parser a on, the reader r is in front of what the parser b has left.
+-- The loop started in the state a. Now the parser is in the state b, with the reader r.
 pub record Reading (a b : State) (r : Reader) : Type 0 where
   pub items : ℕ
   pub turns : a.turns + items ≤ b.turns
@@ -65,11 +65,11 @@ begins a r es ef ep = record {
   settings = (refl, refl);
 }
 
--- where a turn was refused
+-- a turn was refused
 pub refused_counts : (a b t u : State) (r : Reader) → t ≡ record b { turns = b.turns + 1 } → Reading a b r → Carries t u → Stays t u → Carries b t → Carries a u × (u.turns + a.taken ≤ a.turns + u.taken + 1)
 refused_counts a b t u r tick w counts stays c = ((λ s k. counts s (c s (w.counts s k))), refused_turns a b t u w.turned tick counts stays.0)
 
--- where it was made, and the heights were noted
+-- a turn was made, and the heights were noted
 pub goes_on : (a b t u v x : State) (r r2 : Reader) (k h : ℕ) → t ≡ record b { turns = b.turns + 1 } → k ≡ length r2.open_groups → h ≡ heads_in r2.open_groups → v ≡ record u { peak = max u.peak k } → x ≡ record v { held = max v.held h }
     → Reading a b r → Carries t u → Stays t u → SameSettings t u → Carries b t → (r.open_groups ≡ [] → ends b.left ≡ true → ⊥) → Turn (stand r t.left) (stand r2 u.left) → Carries v x → Reading a x r2
 goes_on a b t u v x r r2 k h tick ek eh ev ex = rw (tick, ex, ev, ek, eh) (λ w counts stays settings c undone turn cx.
@@ -87,9 +87,9 @@ goes_on a b t u v x r r2 k h tick ek eh ev ex = rw (tick, ex, ev, ek, eh) (λ w 
       settings = (settings.0 ∙ w.settings.0, settings.1 ∙ w.settings.1);
     })
 
--- ---- nothing was listed
+-- ---- tokens that list no items
 
--- no items are in front, to the end
+-- no prefix of ts lists items up to the end
 abbrev pub Unlisted : List Tok → Type 0
 Unlisted ts = (xs : Items) (r : List Tok) → lists xs ts r → ends r ≡ true → ⊥
 
@@ -101,7 +101,7 @@ left_pending a b r v w ep e = not_listed a b r w (unpending r.open_groups r.pend
 
 -- ---- the end
 
--- spans as many as instructions
+-- there is one span for each instruction
 span_cases : (V : Type 0) (len : V → ℕ) (o : Option V) (keeps : Bool) (n m : ℕ) → n ≡ m → (elim o as (λ _. Option ℕ) [ Some v ↦ Some (len v) | None ↦ None ]) ≡ (if keeps then Some n else None) → elim o as (λ _. Type 0) [ Some v ↦ (keeps ≡ true) × (len v ≡ m) | None ↦ keeps ≡ false ]
 span_cases V len (Some v) true n m q e = (refl, (let k : len v ≡ n = cc in k ∙ q))
 span_cases V len None false n m q e = refl
@@ -131,16 +131,16 @@ finished a b r n turns e (xs, rest, l, fit, only, (e2, here, is)) =
 pub listed : (a b : State) (r : Reader) → Reading a b r → r.open_groups ≡ [] → r.pending ≡ None → ends b.left ≡ true → IsListed a b r.out × SpansAre a.tracks r.out
 listed a b r w es ep e = let same = rw (es, ep) at w.same in finished a b r w.items w.turns e (same.back (with_tallies (flat r.out) (counters w.items b)) b.left (Nil, b.left, refl, tt, tt, (e, refl, refl)))
 
--- ---- what that says of the production
+-- ---- consequences for the production
 
--- what is listed is what is read
+-- listed items are read
 pub reads_listed : (xs : Items) (ts r : List Tok) → lists xs ts r → ends r ≡ true → expression.reads ts ≡ Some (value_of xs, r)
 unfolding expression
 reads_listed xs ts r l e =
     let b = lists_between xs ts r l in
     ap expression.reads b.is ∙ expression.complete (value_of xs) b.front r (xs, rw b.is at l, e, refl)
 
--- where nothing is listed, nothing is read
+-- if no items are listed, nothing is read
 pub reads_nothing_listed : (ts : List Tok) → Unlisted ts → expression.reads ts ≡ None
 unfolding expression
 reads_nothing_listed ts never =
@@ -148,7 +148,7 @@ reads_nothing_listed ts never =
     (λ x e. (let f = expression.sound ts x e in let l = f.2 in absurd (never l.0 x.1 (rw (← f.1) at l.1) l.2)))
     (λ e. e)
 
--- items behind a hint, and items of some tokens, have an instruction
+-- items after a hint, and items of at least one token, have an instruction
 some_listed : (p : Option ℕ) (xs : Items) (ts r : List Tok) → Fits p xs → lists xs ts r → (p ≡ None → ts ≡ r → ⊥) → no_items (unfolded xs) ≡ false
 some_listed None Nil ts r f l n = absurd (n refl l)
 some_listed (Some v) Nil ts r f l n = absurd f
@@ -160,7 +160,7 @@ some_listed p (IfElse i ops th el xs) ts r f l n = filled_before _ (unfolded xs)
 some_listed None (Hinted v xs) ts r f l n = some_listed (Some v) xs l.0 r l.3 l.4 (λ e q. cc)
 some_listed (Some u) (Hinted v xs) ts r f l n = absurd f
 
--- where something follows, no bare value is in front
+-- if the tokens do not end at once, they spell no bare value
 pub not_bare : (ts : List Tok) → (ends ts ≡ true → ⊥) → NotBare bare_expression (expression.reads ts)
 unfolding expression
 not_bare ts more =
@@ -175,7 +175,7 @@ not_bare ts more =
 pub found : (a b : State) (x : Expression) → IsListed a b x → expression.reads a.left ≡ Some (expression_view x, b.left)
 found a b x l = reads_listed l.items a.left b.left l.listed l.ended ∙ ap (λ (v : Expr). Some (v, b.left)) (sym l.value)
 
--- where a turn was refused
+-- a turn was refused
 pub refused : (a b t : State) (r : Reader) (e : Error) → Reading a b r → t ≡ record b { turns = b.turns + 1 } → (r.open_groups ≡ [] → ends b.left ≡ true → ⊥) → (e.fault ≢ Memory → Stuck (stand r t.left))
     → (e.fault ≢ Memory → expression.reads a.left ≡ None) × (e.fault ≡ Memory → NotBare bare_expression (expression.reads a.left))
 refused a b t r e w tick undone stuck = (
@@ -183,7 +183,7 @@ refused a b t r e w tick undone stuck = (
   (λ m. (not_bare a.left (λ k. (let i = w.idle k in undone i.0 (ap ends i.1 ∙ k))))),
 )
 
--- what is read is answered, or memory ran out and it isn't bare
+-- the value that the tokens spell is returned, or memory ran out and the value isn't bare
 pub read_accepted : (res : Result Expression Error) (read : Read Expr) (left : List Tok) → Gives (owning expression_view bare_expression) res read left
     → (v : Expr) (r : List Tok) → read ≡ Some (v, r) → Accepts (owning expression_view bare_expression) res v left r
 read_accepted (Ok x) read left g v r e =
@@ -194,7 +194,7 @@ read_accepted (Err f) read left g v r e =
     (λ m. (m, rw e at (g.1 m)))
     (λ not. (let none : read ≡ None = g.0 not in cc))
 
--- the items that are listed are what is answered, or memory ran out
+-- the value of listed items is returned, or memory ran out
 pub accepted : (res : Result Expression Error) (ts left : List Tok) → Gives (owning expression_view bare_expression) res (expression.reads ts) left
     → (xs : Items) (r : List Tok) → lists xs ts r → ends r ≡ true → Accepts (owning expression_view bare_expression) res (value_of xs) left r
 accepted res ts left g xs r l e = read_accepted res (expression.reads ts) left g (value_of xs) r (reads_listed xs ts r l e)

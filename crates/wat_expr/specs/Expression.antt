@@ -1,4 +1,4 @@
--- An expression as contracts see it, and the tokens that spell it.
+-- Expressions as contracts see them, and the tokens that spell an expression.
 use Rattle.std.specs.Prelude.{◌≡◌, [], ◌∷◌, ◌++◌, ℕ, Bool, true, false, List, length, map, Option}
 use Rattle.std.specs.Prelude.{Some, None, Vec}
 use Rattle.std.specs.Option.{option_map}
@@ -11,7 +11,7 @@ use Rattle.wat_expr.specs.declared.expression.BranchHint.{BranchHint}
 use Rattle.wat_expr.specs.declared.expression.Expression.{Expression}
 use Rattle.wat_expr.specs.Items.{Items, lists, unfolded, hints}
 
--- its instructions, and each hint as an index and a value
+-- the instructions, and each hint as an index and a value
 pub record Expr : Type 0 where
   pub instrs : List Instr
   pub hints : List (ℕ × ℕ)
@@ -30,16 +30,16 @@ expression_view e =
 abbrev pub bare_expression : Expr → Bool
 bare_expression e = no_items e.instrs
 
--- what items are as an expression
+-- the expression of items
 abbrev pub value_of : Items → Expr
 value_of xs = record { instrs = unfolded xs; hints = hints xs 0 }
 
--- in front of the rest r, which is empty or begins with `)`, the tokens c list items, and the
--- expression is what they unfold to, with their hints
+-- The tokens c list items before the rest r, which is empty or begins with `)`. The expression has
+-- the unfolded instructions and the hints of these items.
 abbrev pub expression_spells : Expr → List Tok → List Tok → Type 0
 expression_spells e c r = (xs : Items) × lists xs (c ++ r) r × (ends r ≡ true) × (e ≡ value_of xs)
 
--- as many spans as instructions where they are kept, and else none
+-- if spans are kept, there is one span for each instruction; otherwise there are no spans
 abbrev pub SpansAre : Bool → Expression → Type 0
 SpansAre keeps e =
     elim e.instr_spans [
@@ -47,10 +47,10 @@ SpansAre keeps e =
       | None ↦ keeps ≡ false
     ]
 
--- the spans that are kept
+-- the kept spans
 abbrev pub kept_spans : {S : Type 0} → Option (Vec S Global) → Option (List S)
 kept_spans s = option_map (λ v. v.items) s
 
--- one more span behind them, where they are kept
+-- one more span at the end, if spans are kept
 abbrev pub and_span : {S : Type 0} → S → Option (List S) → Option (List S)
 and_span s l = option_map (λ l. l ++ s ∷ []) l

@@ -5,7 +5,7 @@ use Rattle.wat_expr.specs.Reading.{expression_reads}
 use Rattle.wat_expr.specs.Laws.Reading.{expression_sound, expression_complete, expression_takes}
 use Rattle.wat_expr.specs.Laws.Reading.{expression_balanced}
 
--- items, to the end
+-- items up to the end
 unfoldable pub expression : Production Expr
 expression = record {
   spells = expression_spells;

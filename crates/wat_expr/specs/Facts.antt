@@ -1,8 +1,8 @@
--- Where a list of items ends.
+-- The rests at which a list of items ends.
 use Rattle.std.specs.Prelude.{◌≡◌, List, [], ◌∷◌, codes}
 use Rattle.wat_tokens.specs.Token.{Tok, LParen, RParen, Keyword}
 
--- nothing, `)`, or `( then`
+-- the rest is empty, or begins with `)` or `( then`
 abbrev pub Stops : List Tok → Type 0
 Stops [] = Unit {0}
 Stops (RParen ∷ ts) = Unit {0}

@@ -1,4 +1,4 @@
--- What a loop has put out.
+-- The output of a loop.
 use Rattle.std.specs.Prelude.{ℕ, suc, Bool, List, [], ◌∷◌, ◌++◌, length, map, Option, Some, None}
 use Rattle.std.specs.Prelude.{Vec, if◌then◌else◌}
 use Rattle.std.specs.declared.alloc.Global.{Global}
@@ -7,13 +7,13 @@ use Rattle.wat_expr.specs.declared.expression.Expression.{Expression}
 use Rattle.wat_expr.specs.Expression.{hint_view}
 use Rattle.wat_expr.specs.Items.{mark}
 
--- the instructions, the hints, and how many spans are kept, where they are
+-- the instructions, the hints, and the number of spans if spans are kept
 pub record Flat : Type 0 where
   pub instrs : List Instr
   pub hints : List (ℕ × ℕ)
   pub spans : Option ℕ
 
--- how many spans are kept, where they are
+-- the number of spans, if spans are kept
 abbrev pub span_count : {S : Type 0} → Option (Vec S Global) → Option ℕ
 span_count (Some v) = Some (length v.items)
 span_count None = None
@@ -25,7 +25,7 @@ flat e = record {
   spans = span_count e.instr_spans;
 }
 
--- nothing yet
+-- the empty output
 abbrev pub no_output : Bool → Flat
 no_output keeps = record { instrs = []; hints = []; spans = if keeps then Some 0 else None }
 
@@ -33,7 +33,7 @@ abbrev pub one_more : Option ℕ → Option ℕ
 one_more (Some n) = Some (suc n)
 one_more None = None
 
--- an instruction at the end, with the hint that is directly before its item
+-- an instruction at the end, with the hint directly before its item
 abbrev pub push : Option ℕ → Instr → Flat → Flat
 push p i f =
     record {

@@ -1,4 +1,4 @@
--- Folded instructions of any kind: no block gets an `end`, and none has a hint.
+-- Folded instructions of any kind. Blocks get no `end`, and instructions have no hints.
 use Rattle.std.specs.Prelude.{◌≡◌, ℕ, zero, suc, ◌+◌, max, List, [], ◌∷◌, ◌++◌, length, Some, None}
 use Rattle.wat_tokens.specs.Token.{Tok, LParen, RParen}
 use Rattle.wat_tokens.specs.Production.{Read, bind, some_of}
@@ -7,23 +7,23 @@ use Rattle.wat_expr.specs.Items.{reads}
 use Rattle.wat_expr.specs.Expression.{Expr}
 use Rattle.wat_expr.specs.Reading.{closed}
 
--- A list of groups: the first one's instruction and groups, and the groups after it.
+-- A list of groups: the instruction and the groups of the first group, and the groups after it.
 pub data Groups : Type 0 where
   NoGroup : Groups
   Group : Instr → Groups → Groups → Groups
 
--- The tokens ts list the groups, in front of the rest r: each is ( i groups ).
+-- The tokens ts list the groups before the rest r. Each group is ( i groups ).
 abbrev pub groups : Groups → List Tok → List Tok → Type 0
 groups NoGroup ts r = ts ≡ r
 groups (Group i gs hs) ts r =
     (a b d : List Tok) × (ts ≡ LParen ∷ a) × reads i a b × groups gs b (RParen ∷ d) × groups hs d r
 
--- the instructions, each behind those of its groups
+-- the instructions, each after the instructions of its groups
 abbrev pub unfolded_groups : Groups → List Instr
 unfolded_groups NoGroup = []
 unfolded_groups (Group i gs hs) = (unfolded_groups gs ++ i ∷ []) ++ unfolded_groups hs
 
--- how many groups, and how deep they are in each other
+-- the number of groups, and their nesting depth
 abbrev pub count_groups : Groups → ℕ
 count_groups NoGroup = 0
 count_groups (Group i gs hs) = suc (count_groups gs + count_groups hs)
@@ -32,11 +32,11 @@ abbrev pub depth_groups : Groups → ℕ
 depth_groups NoGroup = 0
 depth_groups (Group i gs hs) = max (suc (depth_groups gs)) (depth_groups hs)
 
--- The tokens ts list the one group ( i groups ), in front of the rest r.
+-- The tokens ts list the single group ( i groups ) before the rest r.
 abbrev pub is_folded : Instr → Groups → List Tok → List Tok → Type 0
 is_folded i gs ts r = (a b : List Tok) × (ts ≡ LParen ∷ a) × reads i a b × groups gs b (RParen ∷ r)
 
--- what the group is as an expression
+-- the expression of the group
 abbrev pub folded_value : Instr → Groups → Expr
 folded_value i gs = record { instrs = unfolded_groups gs ++ i ∷ []; hints = [] }
 
@@ -57,8 +57,8 @@ folded_reads _ = None
 
 -- ---- the production
 
--- in front of the rest r the tokens c list one group, and the expression is its instructions, each
--- behind those of its groups, without a hint
+-- The tokens c list one group before the rest r. The expression has the instructions of the group,
+-- each after the instructions of its groups, and no hints.
 abbrev pub folded_spells : Expr → List Tok → List Tok → Type 0
 folded_spells e c r =
     (i : Instr) × (gs : Groups) × is_folded i gs (c ++ r) r × (e ≡ folded_value i gs)

@@ -7,7 +7,7 @@ use Rattle.wat_expr.specs.Items.{reads}
 use Rattle.wat_expr.specs.Flat.{Flat, push}
 use Rattle.wat_expr.specs.OpenGroups.{OpenGroup, InFolded}
 
--- what is open, the tokens that are left, and what was put out
+-- the open groups, the tokens that are left, and the output
 pub record GroupState : Type 0 where
   pub open_groups : List OpenGroup
   pub left : List Tok
@@ -16,31 +16,32 @@ pub record GroupState : Type 0 where
 abbrev pub group_state : List OpenGroup → List Tok → Flat → GroupState
 group_state s ts f = record { open_groups = s; left = ts; out = f }
 
--- a group opens: its instruction waits
+-- a group opens, and its instruction waits
 abbrev pub Opens : GroupState → GroupState → Type 0
 Opens s t =
     (i : Instr) × (a : List Tok) × (s.left ≡ LParen ∷ a) × reads i a t.left
     × (t.open_groups ≡ InFolded i None ∷ s.open_groups) × (t.out ≡ s.out)
 
--- the innermost group closes: its instruction is put behind the others
+-- the innermost group closes, and its instruction is appended to the output
 abbrev pub Closes : GroupState → GroupState → Type 0
 Closes s t =
     (i : Instr) × (h : Option ℕ) × (s.open_groups ≡ InFolded i h ∷ t.open_groups)
     × (s.left ≡ RParen ∷ t.left)
     × (t.out ≡ push h i s.out)
 
--- neither can be
+-- no group can open, and no group can close
 pub record IsHalted (s : GroupState) : Type 0 where
   pub opens : (i : Instr) (a b : List Tok) → s.left ≡ LParen ∷ a → reads i a b → ⊥
   pub closes : (i : Instr) (h : Option ℕ) (q : List OpenGroup) (d : List Tok)
       → s.open_groups ≡ InFolded i h ∷ q → s.left ≡ RParen ∷ d → ⊥
 
--- On Ok one of them was. Where it is refused, but for memory, neither can be.
+-- With Ok, a group opened or closed. With an error other than Memory, no group can open or close.
 abbrev pub GroupTurn : {A : Type 0} → Result A Error → GroupState → GroupState → Type 0
 GroupTurn (Ok x) s t = Opens s t ⊎ Closes s t
 GroupTurn (Err e) s t = e.fault ≢ Memory → IsHalted s
 
--- Behind a `(` the group of an instruction opened. Or, unless memory ran out, none is in front.
+-- With Ok, a group opened after its `(`. With an error other than Memory, ts begins with no
+-- instruction.
 abbrev pub OpensBehind : {A : Type 0} → Result A Error → List OpenGroup → List OpenGroup
     → List Tok → List Tok → Type 0
 OpensBehind (Ok x) s t ts r = (i : Instr) × reads i ts r × (t ≡ InFolded i None ∷ s)

@@ -1,4 +1,4 @@
--- Expressions: items, the tokens that list them, and what they unfold to.
+-- Expressions: items, the tokens that list items, and the unfolded instructions.
 use Rattle.std.specs.Prelude.{◌≡◌, ℕ, suc, ◌+◌, ◌<◌, max, Bool, true, false, ◌||◌, List, [], ◌∷◌}
 use Rattle.std.specs.Prelude.{◌++◌, length, Option, Some, None, codes}
 use Rattle.wat_tokens.specs.Production.{Front}
@@ -6,7 +6,7 @@ use Rattle.wat_tokens.specs.Token.{Tok, LParen, RParen, Keyword, Annotation, Str
 use Rattle.wat_instr.specs.Instruction.{Instr, instruction, is_block, is_if, is_br_if, else_instr}
 use Rattle.wat_instr.specs.Instruction.{end_instr}
 
--- what is behind an instruction in its group
+-- the kind of a group, by its instruction
 pub data Sort : Type 0 where
   IsBlock : Sort
   IsIf : Sort
@@ -17,7 +17,7 @@ sort_of true _ = IsBlock
 sort_of false true = IsIf
 sort_of false false = IsOther
 
--- a block's instruction, an `if`, or any other
+-- the instruction of a block, an `if`, or any other instruction
 abbrev pub sort : Instr → Sort
 sort i = sort_of (is_block i.row) (is_if i.row)
 
@@ -25,8 +25,8 @@ sort i = sort_of (is_block i.row) (is_if i.row)
 abbrev pub reads : Instr → List Tok → List Tok → Type 0
 reads i ts r = Front instruction.spells ts (i, r)
 
--- A list of items: its first item, and last the items after it. A hint is in front of the items
--- after it.
+-- A list of items: the first item, and as the last argument the items after it. A hint precedes the
+-- items after it.
 pub data Items : Type 0 where
   Nil : Items
   Plain : Instr → Items → Items
@@ -36,7 +36,7 @@ pub data Items : Type 0 where
   IfElse : Instr → Items → Items → Items → Items → Items
   Hinted : ℕ → Items → Items
 
--- P holds where the list has a Plain item, and G where it has any other
+-- if the list has a Plain item, P holds; if it has any other item, G holds
 abbrev pub Only : Type 0 → Type 0 → Items → Type 0
 Only P G Nil = Unit {0}
 Only P G (Plain i xs) = P × Only P G xs
@@ -46,7 +46,7 @@ Only P G (IfThen i ops th xs) = G × Only P G xs
 Only P G (IfElse i ops th el xs) = G × Only P G xs
 Only P G (Hinted v xs) = G × Only P G xs
 
--- groups and hints alone
+-- only groups and hints
 abbrev pub AreGroups : Items → Type 0
 AreGroups xs = Only ⊥ (Unit {0}) xs
 
@@ -54,7 +54,7 @@ AreGroups xs = Only ⊥ (Unit {0}) xs
 abbrev pub is_branch : Instr → Bool
 is_branch i = is_br_if i.row || is_if i.row
 
--- the first item is `br_if` or `if` alone, a folded `br_if`, or the group of an `if`
+-- the first item is a plain `br_if` or `if`, a folded `br_if`, or the group of an `if`
 abbrev pub BeginsWithBranch : Items → Type 0
 BeginsWithBranch Nil = ⊥
 BeginsWithBranch (Plain i xs) = is_branch i ≡ true
@@ -64,14 +64,14 @@ BeginsWithBranch (IfThen i ops th xs) = Unit {0}
 BeginsWithBranch (IfElse i ops th el xs) = Unit {0}
 BeginsWithBranch (Hinted v xs) = ⊥
 
--- the tokens of a word and of a hint's annotation
+-- the token of a keyword, and the token of the annotation of a hint
 abbrev pub keyword : List ℕ → Tok
 keyword w = Keyword w
 
 abbrev pub hint_name : Tok
 hint_name = Annotation (codes "metadata.code.branch_hint")
 
--- The tokens ts list the items, in front of the rest r.
+-- The tokens ts list the items before the rest r.
 abbrev pub lists : Items → List Tok → List Tok → Type 0
 -- nothing
 lists Nil ts r = ts ≡ r
@@ -85,7 +85,7 @@ lists (Folded i ys xs) ts r =
 lists (Block i ys xs) ts r =
     (a b d : List Tok) × (ts ≡ LParen ∷ a) × (sort i ≡ IsBlock) × reads i a b
     × lists ys b (RParen ∷ d) × lists xs d r
--- ( i groups ( then items ) ), of an `if`, behind whose word a block type may stand
+-- ( i groups ( then items ) ), of an `if`; i may include a block type
 lists (IfThen i ops th xs) ts r =
     (a b d e : List Tok) × (ts ≡ LParen ∷ a) × (sort i ≡ IsIf) × reads i a b × AreGroups ops
     × lists ops b (LParen ∷ keyword (codes "then") ∷ d) × lists th d (RParen ∷ RParen ∷ e)
@@ -102,8 +102,8 @@ lists (Hinted v xs) ts r =
     (d : List Tok) × (ts ≡ LParen ∷ hint_name ∷ String (v ∷ []) ∷ RParen ∷ d) × (v < 2)
     × BeginsWithBranch xs × lists xs d r
 
--- The instructions in the order of a flat list: a folded one behind its operands, a block's and an
--- `if`'s in front of what it holds, with `else` and `end` added.
+-- The instructions in the order of a flat list. A folded instruction comes after its operands. The
+-- instruction of a block or an `if` comes before its contents, and `else` and `end` are added.
 abbrev pub unfolded : Items → List Instr
 unfolded Nil = []
 unfolded (Plain i xs) = i ∷ unfolded xs
@@ -116,13 +116,13 @@ unfolded (IfElse i ops th el xs) =
     ++ unfolded xs
 unfolded (Hinted v xs) = unfolded xs
 
--- the pair of an instruction's index and the hint directly before its item, where one is there
+-- the pair of an instruction's index and the hint directly before its item, if there is a hint
 abbrev pub mark : Option ℕ → ℕ → List (ℕ × ℕ)
 mark None head = []
 mark (Some v) head = (head, v) ∷ []
 
--- The hints of items that unfold from the index b on, where p is the hint that is directly before
--- the first.
+-- The hints of items whose instructions have indices from b on. p is the hint directly before the
+-- first item.
 abbrev pub hints_behind : Option ℕ → Items → ℕ → List (ℕ × ℕ)
 hints_behind p Nil b = []
 hints_behind p (Plain i xs) b = mark p b ++ hints_behind None xs (b + 1)
@@ -144,14 +144,14 @@ hints_behind p (IfElse i ops th el xs) b =
     ++ hints_behind None xs (other + length (unfolded el) + 1)
 hints_behind p (Hinted v xs) b = hints_behind (Some v) xs b
 
--- Each hint of the items, with the index of the instruction of the item that it stands before; the
--- items unfold from the index b on.
+-- The hints of items whose instructions have indices from b on. Each hint has the index of the
+-- instruction of the next item.
 abbrev pub hints : Items → ℕ → List (ℕ × ℕ)
 hints xs b = hints_behind None xs b
 
--- ---- how many items, and how deep
+-- ---- number and depth of items
 
--- the items at all depths
+-- the number of items at all depths
 abbrev pub count : Items → ℕ
 count Nil = 0
 count (Plain i xs) = suc (count xs)
@@ -161,7 +161,7 @@ count (IfThen i ops th xs) = suc (count ops + count th + count xs)
 count (IfElse i ops th el xs) = suc (count ops + count th + count el + count xs)
 count (Hinted v xs) = suc (count xs)
 
--- the hints among them
+-- the number of hints at all depths
 abbrev pub count_hints : Items → ℕ
 count_hints Nil = 0
 count_hints (Plain i xs) = count_hints xs
@@ -172,7 +172,7 @@ count_hints (IfElse i ops th el xs) =
     count_hints ops + count_hints th + count_hints el + count_hints xs
 count_hints (Hinted v xs) = suc (count_hints xs)
 
--- how deep groups are in groups: 0 for instructions alone and hints
+-- the nesting depth of groups: 0 for plain instructions and hints
 abbrev pub depth : Items → ℕ
 depth Nil = 0
 depth (Plain i xs) = depth xs
@@ -182,8 +182,8 @@ depth (IfThen i ops th xs) = max (suc (max (depth ops) (depth th))) (depth xs)
 depth (IfElse i ops th el xs) = max (suc (max (depth ops) (max (depth th) (depth el)))) (depth xs)
 depth (Hinted v xs) = depth xs
 
--- how many instructions wait at once for the end of their operands: those of folded groups, and of
--- an `if` for its operands alone
+-- The maximal number of instructions that wait at once for the end of their operands. The
+-- instruction of a folded group waits, and the instruction of an `if` until its `( then`.
 abbrev pub deep : Items → ℕ
 deep Nil = 0
 deep (Plain i xs) = deep xs

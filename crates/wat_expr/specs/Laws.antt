@@ -1,4 +1,4 @@
--- Laws of the definitions: lemmas that definitions or other crates rest on.
+-- Laws of the definitions: lemmas that definitions or other crates use.
 pub mod Alone
 pub mod Facts
 pub mod Folded

@@ -1,4 +1,4 @@
--- What was read of a parser's tokens, and what was counted over it.
+-- The tokens that a parser read, and the counters over these tokens.
 use Rattle.std.specs.Prelude.{◌≡◌, suc, ◌+◌, ◌≤◌, max, true}
 use Rattle.wat_tokens.specs.State.{State}
 use Rattle.wat_tokens.specs.Tests.{ends}
@@ -8,10 +8,10 @@ use Rattle.wat_expr.specs.Expression.{expression_view, value_of}
 use Rattle.wat_expr.specs.Items.{Items, lists, count, depth, deep}
 use Rattle.wat_expr.specs.Folded.{Groups, is_folded, folded_value, count_groups, depth_groups}
 
--- The tokens from a to b list items, to the end, and the expression is what these unfold to, with
--- their hints. Over them `turns` rose by at least the number of the items, `peak` is at least how
--- deep they are, and `held` is the greater of what it was and how many instructions waited at
--- once.
+-- The tokens from a to b list items up to the end. The expression has the unfolded instructions and
+-- the hints of these items. `turns` rose by at least the number of items. `peak` is at least the
+-- depth of the items. `held` is the maximum of the old `held` and the number of instructions that
+-- waited at once.
 pub record IsListed (a b : State) (e : Expression) : Type 0 where
   pub items : Items
   pub listed : lists items a.left b.left
@@ -21,7 +21,7 @@ pub record IsListed (a b : State) (e : Expression) : Type 0 where
   pub peak : depth items ≤ b.peak
   pub held : b.held ≡ max a.held (deep items)
 
--- The same of one group, without hints.
+-- The same for one group, without hints.
 pub record IsFolded (a b : State) (e : Expression) : Type 0 where
   pub instr : Instr
   pub within : Groups

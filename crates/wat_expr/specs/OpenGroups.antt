@@ -1,4 +1,4 @@
--- What is open in an expression, from the innermost outwards.
+-- The open groups of an expression, the innermost group first.
 use Rattle.std.specs.Prelude.{◌≡◌, ℕ, suc, List, [], ◌∷◌, length, Option, Some, None, Bool, true}
 use Rattle.std.specs.Prelude.{false}
 use Rattle.wat_instr.specs.Instruction.{Instr}
@@ -6,7 +6,7 @@ use Rattle.wat_expr.specs.declared.open_groups.Mark.{Mark}
 use Rattle.wat_expr.specs.declared.open_groups.Kind.{Kind}
 use Rattle.wat_expr.specs.declared.open_groups.Kind.TheVariants as kind
 
--- a folded group and an `if` in front of its `( then` hold their instruction, with its hint
+-- a folded group, and an `if` before its `( then`, hold their instruction and its hint
 pub data OpenGroup : Type 0 where
   InFolded : Instr → Option ℕ → OpenGroup
   InBlock : OpenGroup
@@ -15,7 +15,7 @@ pub data OpenGroup : Type 0 where
   AfterElse : OpenGroup
   InArm : OpenGroup
 
--- how many open groups hold an instruction
+-- the number of open groups that hold an instruction
 abbrev pub heads_in : List OpenGroup → ℕ
 heads_in [] = 0
 heads_in (InFolded i h ∷ s) = suc (heads_in s)
@@ -25,9 +25,9 @@ heads_in (AfterThen ∷ s) = heads_in s
 heads_in (AfterElse ∷ s) = heads_in s
 heads_in (InArm ∷ s) = heads_in s
 
--- ---- the open groups as they are kept: their kinds, and what they hold
+-- ---- the open groups as they are stored: kinds, instructions and marks
 
--- how many of the kinds hold an instruction
+-- the number of kinds that hold an instruction
 abbrev pub waiting : List Kind → ℕ
 waiting [] = 0
 waiting (kind.Folded ∷ ks) = suc (waiting ks)
@@ -37,7 +37,7 @@ waiting (kind.AfterThen ∷ ks) = waiting ks
 waiting (kind.AfterElse ∷ ks) = waiting ks
 waiting (kind.Arm ∷ ks) = waiting ks
 
--- the open groups of the kinds, which hold the instructions, with their marks, in order
+-- the open groups with these kinds, instructions and marks, in order
 abbrev pub open_groups : List Kind → List Instr → List Mark → List OpenGroup
 open_groups (kind.Folded ∷ ks) (i ∷ is) (m ∷ ms) = InFolded i m.hint ∷ open_groups ks is ms
 open_groups (kind.If ∷ ks) (i ∷ is) (m ∷ ms) = InIf i m.hint ∷ open_groups ks is ms
@@ -47,7 +47,7 @@ open_groups (kind.AfterElse ∷ ks) is ms = AfterElse ∷ open_groups ks is ms
 open_groups (kind.Arm ∷ ks) is ms = InArm ∷ open_groups ks is ms
 open_groups _ is ms = []
 
--- as many instructions wait as the kinds say, each with its mark
+-- the number of instructions fits the kinds, and each instruction has a mark
 abbrev pub EachHolds : List Kind → List Instr → List Mark → Type 0
 EachHolds ks is ms = (waiting ks ≡ length is) × (length ms ≡ length is)
 
@@ -60,12 +60,12 @@ kind_of AfterThen = kind.AfterThen
 kind_of AfterElse = kind.AfterElse
 kind_of InArm = kind.Arm
 
--- the kind of a group that holds its instruction: an `if` or another
+-- the kind of a group that holds its instruction: If if the instruction is `if`, otherwise Folded
 abbrev pub holder : Bool → Kind
 holder true = kind.If
 holder false = kind.Folded
 
--- the innermost open group is of the kind; None where nothing is open
+-- the innermost open group has this kind; with None, no group is open
 abbrev pub TopIs : Option Kind → List OpenGroup → Type 0
 TopIs None s = s ≡ []
 TopIs (Some kind.Folded) s =

@@ -1,4 +1,4 @@
--- What the loop has still to do from a state: the meaning of its open groups.
+-- The remaining work of the loop in a state: the meaning of its open groups.
 use Rattle.std.specs.Prelude.{◌≡◌, ◌≢◌, ◌⊎◌, ℕ, suc, ◌≤◌, ◌+◌, ◌<◌, max, Bool, true, List, [], ◌∷◌}
 use Rattle.std.specs.Prelude.{length, Option, Some, None, Result, Ok, Err, codes}
 use Rattle.wat_tokens.specs.Token.{Tok, LParen, RParen}
@@ -12,8 +12,7 @@ use Rattle.wat_expr.specs.Items.{Only, is_branch, BeginsWithBranch, lists}
 use Rattle.wat_expr.specs.OpenGroups.{OpenGroup, InFolded, InBlock, InIf, AfterThen, AfterElse}
 use Rattle.wat_expr.specs.OpenGroups.{InArm, heads_in}
 
--- the output, how many items there were, and the greatest numbers of open groups and of heads so
--- far
+-- the output, the number of items, and the greatest numbers of open groups and of heads so far
 pub record TalliedFlat : Type 0 where
   pub out : Flat
   pub items : ℕ
@@ -31,8 +30,8 @@ item_more f = record { out = f.out; items = suc f.items; peak = f.peak; held = f
 abbrev pub noted : ℕ → ℕ → TalliedFlat → TalliedFlat
 noted k h f = record { out = f.out; items = f.items; peak = max f.peak k; held = max f.held h }
 
--- What the items come to, turn by turn, in k open groups that hold h heads, where p is directly
--- before the first item.
+-- The tallied output after the items, turn by turn, in k open groups that hold h heads. The hint p
+-- is directly before the first item.
 abbrev pub emit : ℕ → ℕ → Option ℕ → Items → TalliedFlat → TalliedFlat
 emit k h p Nil f = f
 emit k h p (Plain i xs) f = emit k h None xs (noted k h (with_instr p i (item_more f)))
@@ -56,58 +55,59 @@ emit k h p (IfElse i ops th el xs) f =
     (emit (suc k) (suc h) None ops (noted (suc k) (suc h) (item_more f)))))))))))))
 emit k h p (Hinted v xs) f = emit k h (Some v) xs (noted k h (item_more f))
 
--- what is behind a pending hint
+-- the items can follow the pending hint
 abbrev pub Fits : Option ℕ → Items → Type 0
 Fits None xs = Unit {0}
 Fits (Some v) xs = BeginsWithBranch xs
 
--- whether an instruction can be the first behind a pending hint
+-- whether an instruction can be the first after the pending hint
 abbrev pub suits : Option ℕ → Instr → Bool
 suits None i = true
 suits (Some v) i = is_branch i
 
--- what follows a list: its tokens, and the output so far
+-- a condition on the tokens after a list of items, and on the output so far
 abbrev pub After : Type 1
 After = List Tok → TalliedFlat → Type 0
 
--- Items, then what follows them.
+-- Items, and then the condition K on the tokens after them.
 abbrev pub Open : Type 0 → Type 0 → After → ℕ → ℕ → Option ℕ → List Tok → TalliedFlat → Type 0
 Open P G K k h p ts f =
     (xs : Items) × (r : List Tok) × lists xs ts r × Fits p xs × Only P G xs × K r (emit k h p xs f)
 
--- what a closing parenthesis leads to, in k open groups that hold h heads
+-- the condition at a `)`: N holds after it, in k open groups that hold h heads
 abbrev pub at_closing : ℕ → ℕ → After → After
 at_closing k h N r f = (m : List Tok) × (r ≡ RParen ∷ m) × N m (noted k h f)
 
--- at the closing parenthesis an instruction is added
+-- at the `)`, an instruction is added
 abbrev pub close_with : ℕ → ℕ → After → Instr → Option ℕ → After
 close_with k h N i p = at_closing k h (λ m f. N m (with_instr p i f))
 
--- behind (else ..): the `if` is closed
+-- after (else ..), the `if` is closed
 abbrev pub after_else : ℕ → ℕ → After → After
 after_else k h N = close_with k h N end_instr None
 
--- the items of an arm, and what follows it
+-- the items of an arm, and the condition after the arm
 abbrev pub arm : ℕ → ℕ → After → After
 arm k h N = Open (Unit {0}) (Unit {0}) (at_closing (suc k) h N) (suc (suc k)) h None
 
--- behind (then ..): the `if` is closed, or (else comes
+-- after (then ..), the `if` is closed or (else follows
 abbrev pub after_then : ℕ → ℕ → After → After
 after_then k h N ts f =
     after_else k h N ts f ⊎ ((m : List Tok) × (ts ≡ LParen ∷ keyword (codes "else") ∷ m)
     × arm k h (after_else k h N) m (noted (suc (suc k)) h (with_instr None else_instr f)))
 
--- behind an `if`'s operands: (then comes
+-- after the operands of an `if`, (then follows
 abbrev pub then_arm : ℕ → ℕ → After → Instr → Option ℕ → After
 then_arm k h N i p ts f =
     (m : List Tok) × (ts ≡ LParen ∷ keyword (codes "then") ∷ m)
     × arm k h (after_then k h N) m (noted (suc (suc k)) h (with_instr p i f))
 
--- at the end nothing follows but r, and the output is o
+-- at the end, r is left, and the output is o
 abbrev pub all_done : TalliedFlat → List Tok → After
 all_done o r ts f = (ends ts ≡ true) × (ts ≡ r) × (f ≡ o)
 
--- the open groups in which an item can be, and those in which a Plain item can
+-- the open groups that can directly hold an item, and the open groups that can directly hold a
+-- Plain item
 abbrev pub IsOpen : List OpenGroup → Type 0
 IsOpen (AfterThen ∷ s) = ⊥
 IsOpen (AfterElse ∷ s) = ⊥
@@ -119,8 +119,8 @@ TakesPlain (AfterThen ∷ s) = ⊥
 TakesPlain (AfterElse ∷ s) = ⊥
 TakesPlain _ = Unit {0}
 
--- what follows the items of the innermost open group, up to the end, where r is left and the output
--- is o
+-- the condition after the items of the innermost open group, up to the end, where r is left and the
+-- output is o
 abbrev pub after_open_group : TalliedFlat → List Tok → List OpenGroup → After
 after_open_group o r [] = all_done o r
 after_open_group o r (InFolded i p ∷ s) =
@@ -143,30 +143,30 @@ after_open_group o r (InArm ∷ s) =
     at_closing (length s) (heads_in s)
     (Open (TakesPlain s) (IsOpen s) (after_open_group o r s) (length s) (heads_in s) None)
 
--- the loop's state, the innermost open group first
+-- the state of the loop; the innermost open group is first
 pub record TalliedState : Type 0 where
   pub open_groups : List OpenGroup
   pub pending : Option ℕ
   pub left : List Tok
   pub flat : TalliedFlat
 
--- From the place the tokens that are left finish with the output o before the rest r.
+-- From the state s, the tokens that are left finish with the output o before the rest r.
 abbrev pub Finishes : TalliedFlat → List Tok → TalliedState → Type 0
 Finishes o r s =
     Open (TakesPlain s.open_groups) (IsOpen s.open_groups) (after_open_group o r s.open_groups)
     (length s.open_groups)
     (heads_in s.open_groups) s.pending s.left s.flat
 
--- both places finish alike
+-- both states finish with the same outputs and rests
 pub record Same (s t : TalliedState) : Type 0 where
   pub forth : (o : TalliedFlat) (r : List Tok) → Finishes o r s → Finishes o r t
   pub back : (o : TalliedFlat) (r : List Tok) → Finishes o r t → Finishes o r s
 
--- the place finishes in no way
+-- the state can't finish
 abbrev pub IsStuck : TalliedState → Type 0
 IsStuck s = (o : TalliedFlat) (r : List Tok) → Finishes o r s → ⊥
 
--- ---- a turn, whatever was counted before
+-- ---- a turn, for any counters before it
 
 pub record Tallies : Type 0 where
   pub items : ℕ
@@ -176,7 +176,7 @@ pub record Tallies : Type 0 where
 abbrev pub with_tallies : Flat → Tallies → TalliedFlat
 with_tallies f c = record { out = f; items = c.items; peak = c.peak; held = c.held }
 
--- a place without what was counted
+-- a state without counters
 pub record LoopState : Type 0 where
   pub open_groups : List OpenGroup
   pub pending : Option ℕ
@@ -192,27 +192,27 @@ state_with s c =
       flat = with_tallies s.out c;
     }
 
--- what is counted after a turn to the open groups s, with n items
+-- the counters after a turn that leads to the open groups s, with n items
 abbrev pub risen : ℕ → List OpenGroup → Tallies → Tallies
 risen n s c = record { items = n; peak = max c.peak (length s); held = max c.held (heads_in s) }
 
--- as many open groups more as there are more `(` than `)`
+-- the number of open groups rises by the number of taken `(`, minus the number of taken `)`
 abbrev pub Balanced : ℕ → List Tok → ℕ → List Tok → Type 0
 Balanced k ts l us = l + closes ts + opens us ≡ k + opens ts + closes us
 
--- As much is left to do as before, with at most one item more; some token was taken, and the open
--- groups follow the parentheses.
+-- The remaining work is the same as before, with at most one more item. At least one token was
+-- taken, and the open groups match the parentheses.
 pub record Turn (s t : LoopState) : Type 0 where
   pub same : (c : Tallies) → (n : ℕ) × (n ≤ suc c.items)
       × Same (state_with s c) (state_with t (risen n t.open_groups c))
   pub shorter : length t.left < length s.left
   pub balanced : Balanced (length s.open_groups) s.left (length t.open_groups) t.left
 
--- it finishes in no way
+-- the state can't finish, for any counters
 abbrev pub Stuck : LoopState → Type 0
 Stuck s = (c : Tallies) → IsStuck (state_with s c)
 
--- On Ok a turn was made. Where it is refused, but for memory, nothing could be read.
+-- With Ok, a turn was made. With an error other than Memory, the state can't finish.
 abbrev pub TurnAnswers : {A : Type 0} → Result A Error → LoopState → LoopState → Type 0
 TurnAnswers (Ok x) s t = Turn s t
 TurnAnswers (Err e) s t = e.fault ≢ Memory → Stuck s

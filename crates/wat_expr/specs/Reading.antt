@@ -1,4 +1,4 @@
--- How an expression is read: a reader of its items, and that it and `lists` are one.
+-- The reader of an expression: it reads the items that `lists` relates to the tokens.
 use Rattle.std.specs.Prelude.{ℕ, zero, suc, nat_lt, Bool, true, false, if◌then◌else◌, List, [], ◌∷◌}
 use Rattle.std.specs.Prelude.{length, Some, None, codes}
 use Rattle.std.specs.Str.{bytes_eq}
@@ -10,14 +10,14 @@ use Rattle.wat_expr.specs.Items.{Sort, sort, IsBlock, IsIf, IsOther, Items, Nil,
 use Rattle.wat_expr.specs.Items.{Block, IfThen, IfElse, Hinted, is_branch}
 use Rattle.wat_expr.specs.Expression.{Expr, value_of}
 
--- ---- the reader, where rec reads the lists of items further on
+-- ---- the reader; rec reads the lists of items inside groups and after an item
 
 -- `)`
 abbrev pub closed : List Tok → Read (Unit {0})
 closed (RParen ∷ r) = Some (tt, r)
 closed _ = None
 
--- `(` and the word
+-- `(` and the keyword w
 abbrev pub opened : List ℕ → List Tok → Read (Unit {0})
 opened w (LParen ∷ Keyword k ∷ r) = if bytes_eq k w then Some (tt, r) else None
 opened w _ = None
@@ -39,15 +39,15 @@ begins_branch (IfElse i ops th el xs) = true
 begins_branch _ = false
 
 module _ (rec : List Tok → Read Items) where
-  -- the items after one, with it
+  -- the items after an item, with that item
   abbrev pub more_by : (Items → Items) → List Tok → Read Items
   more_by f t = bind (rec t) (λ xs r. some_of (f xs, r))
 
-  -- the items of a group and its `)`, and the items after it
+  -- the items of a group and its `)`, and the items after the group
   abbrev pub group_by : (Items → Items → Items) → List Tok → Read Items
   group_by f t = bind (rec t) (λ ys u. bind (closed u) (λ _ d. more_by (f ys) d))
 
-  -- what follows the `)` of `(then ..)`
+  -- the tokens after the `)` of `(then ..)`
   abbrev pub arms_by : Instr → Items → Items → List Tok → Read Items
   arms_by i ops th (RParen ∷ e) = more_by (IfThen i ops th) e
   arms_by i ops th t =
@@ -55,26 +55,26 @@ module _ (rec : List Tok → Read Items) where
       (λ _ e. bind (rec e) (λ el u. bind (closed u)
       (λ _ v. bind (closed v) (λ _ d. more_by (IfElse i ops th el) d))))
 
-  -- what follows the instruction of an `if`
+  -- the tokens after the instruction of an `if`
   abbrev pub if_by : Instr → List Tok → Read Items
   if_by i t =
       bind (rec t) (λ ops u. if are_groups ops then bind (opened (codes "then") u)
       (λ _ d. bind (rec d) (λ th v. bind (closed v) (λ _ w. arms_by i ops th w))) else None)
 
-  -- what follows the instruction of a group
+  -- the tokens after the instruction of a group
   abbrev pub sort_by : Sort → Instr → List Tok → Read Items
   sort_by IsOther i t = group_by (Folded i) t
   sort_by IsBlock i t = group_by (Block i) t
   sort_by IsIf i t = if_by i t
 
-  -- what follows the annotation of a hint
+  -- the tokens after the annotation of a hint
   abbrev pub hint_by : List Tok → Read Items
   hint_by (String (v ∷ []) ∷ RParen ∷ d) =
       if nat_lt v 2 then bind (rec d)
       (λ xs r. if begins_branch xs then Some (Hinted v xs, r) else None) else None
   hint_by _ = None
 
-  -- what follows a `(`
+  -- the tokens after a `(`
   abbrev pub paren_by : List Tok → Read Items
   paren_by (Keyword w ∷ t) =
       if bytes_eq w (codes "then") then Some (Nil, LParen ∷ Keyword w ∷ t) else bind
@@ -90,7 +90,7 @@ module _ (rec : List Tok → Read Items) where
   items_by (LParen ∷ t) = paren_by t
   items_by t = bind (instruction.reads t) (λ i m. more_by (Plain i) m)
 
--- a list of items, of fewer than n tokens
+-- a list of items, read from fewer than n tokens
 unfoldable pub items_at : ℕ → List Tok → Read Items
 items_at zero t = None
 items_at (suc n) t = items_by (items_at n) t

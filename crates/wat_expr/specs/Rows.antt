@@ -26,11 +26,11 @@ use Rattle.wat_expr.specs.FoldedProduction.{folded_instruction}
 abbrev pub const_of : ℕ → Instr
 const_of n = instr_of word.i32_const (operands.integer (pos n))
 
--- a word alone
+-- an instruction without an operand
 abbrev pub plain_of : ScalarOp → Instr
 plain_of op = instr_of (word.Scalar op) operands.nothing
 
--- a word and an index
+-- a mnemonic and an index
 abbrev pub indexed_of : IndexedOp → ℕ → Instr
 indexed_of op n = instr_of (word.Indexed op) (operands.one_index (number n))
 
@@ -49,7 +49,7 @@ unhinted is = record { instrs = is; hints = [] }
 
 -- ---- tokens
 
--- `(`, a word, tokens, `)`
+-- `(`, a keyword, tokens, `)`
 abbrev pub group_text : List ℕ → List Tok → List Tok
 group_text w ts = in_parens (Keyword w ∷ ts)
 
@@ -72,12 +72,12 @@ branch_hint_text v =
 abbrev pub add_text : List Tok
 add_text = group_text (codes "i32.add") (const_text (codes "1") ++ const_text (codes "2"))
 
--- both operands, the first one first, and then the instruction
+-- the first operand, the second operand, and then the instruction
 abbrev pub sum : List Instr
 sum = const_of 1 ∷ const_of 2 ∷ plain_of scalar.i32_add ∷ []
 
--- `(i32.add (i32.const 1) (i32.const 2))` is `i32.const 1 i32.const 2 i32.add`, as an expression
--- and as a folded instruction
+-- `(i32.add (i32.const 1) (i32.const 2))` spells `i32.const 1 i32.const 2 i32.add`, as an
+-- expression and as a folded instruction
 abbrev pub OperandsFirst : Type 0
 OperandsFirst =
     Spelled expression add_text (unhinted sum) × Spelled folded_instruction add_text (unhinted sum)
@@ -101,8 +101,8 @@ both_arms =
     const_of 1 ∷ opening_of block.if_ ∷ plain_of scalar.nop ∷ closing_of between.else_
     ∷ plain_of scalar.unreachable ∷ closing_of between.end ∷ []
 
--- `(if (i32.const 1) (then (nop)) (else (unreachable)))` is `i32.const 1 if nop else unreachable
--- end`, and so is this text itself
+-- `(if (i32.const 1) (then (nop)) (else (unreachable)))` and `i32.const 1 if nop else unreachable
+-- end` spell the same expression
 abbrev pub BothArms : Type 0
 BothArms =
     Spelled expression if_text (unhinted both_arms)
@@ -116,8 +116,8 @@ branch_text = group_text (codes "br_if") (Integer (codes "0") ∷ get_text)
 abbrev pub branch : List Instr
 branch = indexed_of indexed.local_get 0 ∷ indexed_of indexed.br_if 0 ∷ []
 
--- `(@metadata.code.branch_hint "\01") (br_if 0 (local.get 0))` is `local.get 0 br_if 0`, and the
--- hint is 1, at the index of `br_if`, behind its operand
+-- `(@metadata.code.branch_hint "\01") (br_if 0 (local.get 0))` spells `local.get 0 br_if 0`. The
+-- hint is 1, at the index of `br_if`, which comes after its operand.
 abbrev pub HintBehindOperand : Type 0
 HintBehindOperand =
     Spelled expression (branch_hint_text 1 ++ branch_text)
@@ -127,8 +127,8 @@ HintBehindOperand =
 abbrev pub drop_text : List Tok
 drop_text = group_text (codes "drop") (group_text (codes "block") (group_text (codes "nop") []))
 
--- `(drop (block (nop)))` is `block nop end drop`; as a folded instruction it is `nop block drop`,
--- without an `end`
+-- `(drop (block (nop)))` spells the expression `block nop end drop`. As a folded instruction, it
+-- spells `nop block drop`, without an `end`.
 abbrev pub BlockInFold : Type 0
 BlockInFold =
     Spelled expression drop_text (unhinted (opening_of block.block ∷ plain_of scalar.nop
@@ -145,9 +145,9 @@ abbrev pub one_arm : List Instr
 one_arm =
     indexed_of indexed.local_get 0 ∷ opening_of block.if_ ∷ closing_of between.end ∷ []
 
--- `(if (local.get 0) (then)) (@metadata.code.branch_hint "\00") (if (local.get 0) (then))` is
--- `local.get 0 if end local.get 0 if end`, and the hint is 0, at the index of the second `if`: the
--- `end` that is added counts
+-- `(if (local.get 0) (then)) (@metadata.code.branch_hint "\00") (if (local.get 0) (then))` spells
+-- `local.get 0 if end local.get 0 if end`. The hint is 0, at the index of the second `if`. The
+-- added `end` counts for the index.
 abbrev pub HintBehindBlock : Type 0
 HintBehindBlock =
     Spelled expression (one_arm_text ++ (branch_hint_text 0 ++ one_arm_text))

@@ -1,11 +1,11 @@
--- Where the reader is.
+-- The state of the reader.
 use Rattle.std.specs.Prelude.{◌≡◌, ◌<◌, List, [], ◌∷◌, Option, Some, None, ℕ}
 use Rattle.wat_tokens.specs.Token.{Tok}
 use Rattle.wat_expr.specs.declared.reader.Reader.{Reader}
 use Rattle.wat_expr.specs.Flat.{flat}
 use Rattle.wat_expr.specs.Progress.{LoopState}
 
--- in front of the tokens
+-- the reader r, before the tokens ts
 abbrev pub stand : Reader → List Tok → LoopState
 stand r ts = record {
   open_groups = r.open_groups;
@@ -14,7 +14,7 @@ stand r ts = record {
   out = flat r.out;
 }
 
--- the byte that a hint's string is, 0 or 1
+-- the value of a hint's string: the byte 0 or 1
 abbrev pub IsHintByte : Option ℕ → List ℕ → Type 0
 IsHintByte (Some v) s = (v < 2) × (s ≡ v ∷ [])
 IsHintByte None s = (v : ℕ) → v < 2 → s ≡ v ∷ [] → ⊥

@@ -39,8 +39,8 @@ pub struct BranchHint {
 /// Instructions as one flat list (WebAssembly Core Specification, Text Format, Instructions,
 /// "Expressions").
 ///
-/// A folded instruction comes after its operands. `end` follows a block that was written as a group
-/// (Text Format, "Folded Instructions").
+/// A folded instruction comes after its operands. A block or an `if` that was written as a group is
+/// followed by an added `end` (Text Format, "Folded Instructions").
 #[derive(Debug)]
 pub struct Expression<'a> {
     /// The instructions, in order.
@@ -48,14 +48,13 @@ pub struct Expression<'a> {
     /// The branch hints, in rising order of their instructions.
     pub branch_hints: Vec<BranchHint>,
     /// The span of each instruction if the parser keeps spans
-    /// ([`Parser::track_instr_spans`]), else `None`. A span is where the instruction's keyword
-    /// begins, in bytes from the start of the text. The span of an `end` that was added is that of
-    /// the `)` of its group.
+    /// ([`Parser::track_instr_spans`]), else `None`. A span is the byte offset of the instruction's
+    /// keyword from the start of the text. An added `end` has the span of the `)` of its group.
     pub instr_spans: Option<Vec<Span>>,
 }
 
-/// Written by hand, and proved once, here. If it were derived, each crate that drops an expression
-/// would prove the drop of each of its parts again.
+/// This implementation is not derived, so that it is proved once, here. With a derived one, each
+/// crate that drops an expression would prove the drop of each part again.
 impl Drop for Expression<'_> {
     fn drop(self) {
         let Expression {
@@ -66,8 +65,7 @@ impl Drop for Expression<'_> {
     }
 }
 
-/// Puts a hint behind the others, where there is one; `index` is that of its instruction. Memory
-/// refuses it.
+/// Appends a hint, if any, for the instruction at `index`. The only error is Memory.
 fn add_hint(hints: &mut Vec<BranchHint>, hint: Option<u32>, index: usize) -> Result<()>
     ensures { MatchResult result (λ _. map hint_view hints.new.items
         ≡ map hint_view hints.old.items ++ mark hint index) (λ e. e.fault ≡ Fault.Memory) }
@@ -84,7 +82,8 @@ fn add_hint(hints: &mut Vec<BranchHint>, hint: Option<u32>, index: usize) -> Res
     }
 }
 
-/// Puts a span behind the others, where they are kept. Memory refuses it.
+/// Appends a span if spans are kept. The only error is Memory. After the error, the kept spans are
+/// unchanged.
 fn add_span(spans: &mut Option<Vec<Span>>, span: Span) -> Result<()>
     ensures kept { MatchResult result (λ _. kept_spans spans.new ≡ and_span span
         (kept_spans spans.old)) (λ e. (e.fault ≡ Fault.Memory)
@@ -101,7 +100,7 @@ fn add_span(spans: &mut Option<Vec<Span>>, span: Span) -> Result<()>
     }
 }
 
-/// Takes the last span away again, where they are kept.
+/// Removes the last span if spans are kept.
 fn drop_span(spans: &mut Option<Vec<Span>>)
     ensures { (l : Option (List Span)) (s : Span) → kept_spans spans.old ≡ and_span s l
         → kept_spans spans.new ≡ l }
@@ -128,8 +127,8 @@ impl<'a> Expression<'a> {
         })
     }
 
-    /// Returns the instructions, the branch hints and the spans, each as the field was. A field
-    /// can't be moved out of an expression otherwise.
+    /// Returns the fields: the instructions, the branch hints and the spans. This is the only way
+    /// to move a field out of an expression.
     pub fn into_parts(self) -> (Vec<Instruction<'a>>, Vec<BranchHint>, Option<Vec<Span>>)
         ensures { result ≡ (self.entry.instrs, self.entry.branch_hints, self.entry.instr_spans) }
     {
@@ -142,7 +141,7 @@ impl<'a> Expression<'a> {
     }
 
     /// Appends an instruction without a hint, and its span if spans are kept. The only error is
-    /// Memory; the expression is then unchanged.
+    /// Memory. After the error, the expression is unchanged.
     pub fn put_last(&mut self, instr: Instruction<'a>, span: Span) -> Result<()>
         ensures instrs { MatchResult result (λ _. self.new.instrs.items
             ≡ self.old.instrs.items ++ instr.entry ∷ []) (λ _. self.new.instrs.items
@@ -163,7 +162,7 @@ impl<'a> Expression<'a> {
         }
     }
 
-    /// No instructions; spans are kept where `tracks` says so.
+    /// Returns an expression without instructions. Spans are kept if `tracks` is true.
     pub(crate) fn empty(alloc: Global, tracks: bool) -> Expression<'a>
         ensures { flat result ≡ no_output tracks }
     {
@@ -174,8 +173,8 @@ impl<'a> Expression<'a> {
         }
     }
 
-    /// Puts an instruction behind the others, for which there is room, with the hint that is
-    /// directly before its item. Memory for the hint or the span may be refused.
+    /// Appends an instruction, the hint directly before its item, and its span. The expression has
+    /// room for the instruction. The only error is Memory, for the hint or the span.
     #[inline(always)]
     pub(crate) fn push_reserved(
         &mut self,
@@ -194,7 +193,7 @@ impl<'a> Expression<'a> {
         Ok(())
     }
 
-    /// Puts an instruction that no hint is before behind the others. Memory refuses it.
+    /// Appends an instruction without a hint, and its span. The only error is Memory.
     pub(crate) fn push(&mut self, instr: Instruction<'a>, span: Span) -> Result<()>
         ensures { MatchResult result (λ _. flat self.new ≡ push None (instruction_view instr.entry)
             (flat self.old)) (λ e. e.fault ≡ Fault.Memory) }
@@ -203,8 +202,9 @@ impl<'a> Expression<'a> {
         self.push_reserved(None, instr, span)
     }
 
-    /// Takes the operand of the instruction whose word was taken, and puts the instruction behind
-    /// the others, with the hint that is directly before its item. Memory may be answered.
+    /// Parses the operand of an instruction after its keyword. Appends the instruction, the hint
+    /// directly before its item, and its span. The error is the first error of the operand, or
+    /// Memory.
     #[inline(always)]
     pub(crate) fn read(
         &mut self,
@@ -228,8 +228,7 @@ impl<'a> Expression<'a> {
         }
     }
 
-    /// Puts an `end` behind the others; `span` is where the `)` is that it is added for. Memory
-    /// refuses it.
+    /// Appends an `end`. `span` is the span of the `)` of its group. The only error is Memory.
     pub(crate) fn push_end(&mut self, span: Span) -> Result<()>
         ensures { MatchResult result (λ _. flat self.new ≡ push None end_instr (flat self.old))
             (λ e. e.fault ≡ Fault.Memory) }
@@ -253,15 +252,15 @@ impl<'a> Expression<'a> {
 ///
 /// The errors, each at the next token if no other place is named:
 ///
-/// - Operator: something else is next where an instruction's keyword is needed, or the text ends in
+/// - Operator: an instruction's keyword is needed, and something else is next; or the text ends in
 ///   an open group;
 /// - IfWithoutThen: an `if` closes without `( then`;
 /// - IfTooMany: a group follows the `( else .. )` of an `if`;
-/// - HintValue, at the string of a hint: it isn't the byte 0 or 1;
-/// - HintTwice, at the string of a hint: another hint directly precedes it;
+/// - HintValue, at the string of a hint: the string isn't the byte 0 or 1;
+/// - HintTwice, at the string of a hint: another hint directly precedes the hint;
 /// - HintPlace: no item follows a hint;
-/// - HintTarget, at the keyword of the instruction after a hint: it is neither `br_if` nor `if`. An
-///   error in its operand comes first;
+/// - HintTarget, at the keyword of the instruction after a hint: the keyword is neither `br_if` nor
+///   `if`. An error in the operand of the instruction comes first;
 /// - the errors of operands (see [`Instruction`]);
 /// - Memory, but never for an expression without instructions;
 /// - Unexpected: anything else.
@@ -277,10 +276,11 @@ impl<'a> Parse<'a> for Expression<'a> {
     fn parse(parser: &mut Parser<'a>) -> Result<Self>
         ensures reads { ReadsAt turns_too (owning expression_view bare_expression) expression result
             parser.old parser.new }
-        // The tokens that were taken list items, and these are their unfolding, their hints and
-        // their counts.
+        // The taken tokens list items. The result has the unfolded instructions and the hints of
+        // the items. The counters cover the number and depth of the items.
         ensures listed { IfOk result (λ e. IsListed parser.old parser.new e) }
-        // Where tokens in front list items, to the end, these are answered, unless memory ran out.
+        // If the next tokens list items up to the end, the result is the value of these items. The
+        // only error is then Memory.
         ensures only { (xs : Items) (r : List Tok) → lists xs parser.old.left r → ends r ≡ true
             → Accepts (owning expression_view bare_expression) result (value_of xs) parser.new.left
             r }

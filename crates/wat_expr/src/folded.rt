@@ -1,4 +1,4 @@
-//! Folded instructions of any kind, as element segments and inline tables have them.
+//! Folded instructions of any kind, for the elements of element segments and inline tables.
 
 ghost use Rattle.std.specs.Prelude.{◌≡◌, ◌∷◌, ℕ, List, Option, IfOk};
 ghost use Rattle.wat_expr.specs.Expression.{Expr, expression_view, bare_expression, SpansAre};
@@ -21,7 +21,7 @@ use crate::open_groups::{Kind, Mark, OpenGroups};
 use crate::take::{take_close, take_op, take_open};
 use wat_tokens::{Parse, Parser, Result};
 
-/// A group opens, whose `(` was taken: the instruction in front waits in it.
+/// Opens a group after its `(`. The next instruction waits in the group.
 #[inline(always)]
 fn open_group<'a>(open_groups: &mut OpenGroups<'a>, parser: &mut Parser<'a>) -> Result<()>
     ensures exact { OpensBehind result open_groups.old open_groups.new parser.old.left
@@ -38,8 +38,8 @@ fn open_group<'a>(open_groups: &mut OpenGroups<'a>, parser: &mut Parser<'a>) -> 
     }
 }
 
-/// One turn in a folded group: a group opens, or the innermost one closes and its instruction is
-/// put behind the others.
+/// One turn in a folded group: either a group opens, or the innermost group closes. If the group
+/// closes, its instruction is appended to `out`.
 fn turn<'a>(
     open_groups: &mut OpenGroups<'a>,
     out: &mut Expression<'a>,
@@ -63,25 +63,29 @@ fn turn<'a>(
 
 impl<'a> Expression<'a> {
     /// Parses one folded instruction: `(`, an instruction of any kind, folded instructions, `)`
-    /// (WebAssembly Core Specification, Text Format, "Folded Instructions"). The elements of an
-    /// element segment are abbreviated in this way.
+    /// (WebAssembly Core Specification, Text Format, "Folded Instructions"). An element of an
+    /// element segment can be abbreviated to such an instruction.
     ///
-    /// An instruction comes after the instructions of its group. A block gets no `end`, and no hint
-    /// is allowed.
+    /// In the flat list, an instruction comes after the other instructions of its group. A block
+    /// gets no `end`. Hints are not allowed.
     ///
-    /// The errors, each at the next token: Operator if something else is next where an
-    /// instruction's keyword is needed; Unexpected if another token is next where `(` or `)` is
-    /// needed; the errors of operands; and Memory.
+    /// The errors, each at the next token:
+    ///
+    /// - Operator: an instruction's keyword is needed, and something else is next;
+    /// - Unexpected: `(` or `)` is needed, and something else is next;
+    /// - the errors of operands;
+    /// - Memory.
     pub fn parse_folded_instruction(parser: &mut Parser<'a>) -> Result<Expression<'a>>
-        // What tokens in front spell is answered, and leaves what is behind them; memory alone may
-        // refuse it.
+        // The result is the expression that the next tokens spell, and the tokens after them are
+        // left. If the next tokens spell an expression, the only error is Memory.
         ensures exact { Gives (owning expression_view bare_expression) result
             (folded_instruction.reads parser.old.left) parser.new.left }
-        // Where tokens in front list one group, it is the answer, unless memory ran out.
+        // If the next tokens list one group, the result is that group. The only error is then
+        // Memory.
         ensures only { (i : Instr) (gs : Groups) (r : List Tok) → is_folded i gs parser.old.left r
             → Accepts (owning expression_view bare_expression) result (folded_value i gs)
             parser.new.left r }
-        // What was read is one group, and these are its counts.
+        // The taken tokens are one group. The counters cover its number and depth of groups.
         ensures listed { IfOk result (λ e. IsFolded parser.old parser.new e) }
         ensures spans { IfOk result (λ e. SpansAre parser.old.tracks e) }
         ensures counts { Counted result parser.old parser.new }

@@ -19,33 +19,33 @@ ghost use Rattle.wat_tokens.specs.Token.{Tok, RParen};
 
 use wat_instr::laws::stands_before_what_may_follow;
 
-/// The tokens of an expression have one reading as items, and so have those of a folded
-/// instruction.
+/// The tokens of an expression have one reading as items. The tokens of a folded instruction have
+/// one reading as a group.
 pub fn one_reading()
-    // No two prefixes of one token list list items, each up to the end or a `)`, unless they are
-    // one prefix and the same items.
+    // If two prefixes of one token list both list items, each up to the end or a `)`, then the
+    // prefixes are equal, and so are the items.
     ensures written { (xs ys : Items) (c d r s : List Tok) → c ++ r ≡ d ++ s → ends r ≡ true
         → ends s ≡ true → lists xs (c ++ r) r → lists ys (d ++ s) s → (xs ≡ ys) × (r ≡ s)
         × (c ≡ d) }
-    // No two of them are a folded instruction, unless they are one prefix, with the same
-    // instruction and groups.
+    // If two prefixes of one token list are both a folded instruction, then the prefixes are
+    // equal, and so are the instructions and the groups.
     ensures folded { (i j : Instr) (gs hs : Groups) (c d r s : List Tok) → c ++ r ≡ d ++ s
         → is_folded i gs (c ++ r) r → is_folded j hs (d ++ s) s → ((i ≡ j) × (gs ≡ hs))
         × (r ≡ s) × (c ≡ d) }
 {}
 
-/// The branch hints of an expression are in the order of its instructions, and none is lost.
+/// The branch hints of an expression are in the order of its instructions, and no hint is lost.
 pub fn hints_in_order()
-    // Their indices rise strictly, each below the number of instructions.
+    // The indices of the hints rise strictly. Each index is below the number of instructions.
     ensures rising { (v : Expr) (c r : List Tok) → expression.spells v c r
         → Rises 0 v.hints (length v.instrs) }
-    // They are as many as the hints among the items.
+    // The number of hints of an expression equals the number of hints among its items.
     ensures many { (xs : Items) (t r : List Tok) → lists xs t r
         → length (hints xs 0) ≡ count_hints xs }
 {}
 
-/// An expression has at most as many instructions as tokens, including each `else` and `end` that
-/// is added.
+/// An expression has no more instructions than tokens. Each added `else` and `end` counts as an
+/// instruction.
 pub fn no_more_than_tokens()
     ensures written { (v : Expr) (c r : List Tok) → expression.spells v c r
         → length v.instrs ≤ length c }
@@ -53,28 +53,27 @@ pub fn no_more_than_tokens()
         → length v.instrs ≤ length c }
 {}
 
-/// Items can be written in their flat form: the tokens of each instruction, in the order of the
-/// flat list, with the keywords `else` and `end` where these are added. The flat form lists the
-/// same instructions.
+/// Items have a flat form: the tokens of each instruction, in the order of the flat list, with the
+/// added keywords `else` and `end`. The flat form lists the same instructions.
 pub fn flat_again()
-    // Wherever items were listed, they are listed again, as instructions alone, in front of each
-    // rest that may follow an instruction: one that is empty or begins with `)` or a mnemonic, and
-    // whose second token is none of the words `type`, `param` and `result`.
+    // The flat form of listed items lists the same instructions, without groups, before each rest
+    // that may follow an instruction. Such a rest is empty or begins with `)` or a mnemonic, and
+    // its second token is not one of the keywords `type`, `param` and `result`.
     ensures anywhere { (xs : Items) (ts r s : List Tok) (l : lists xs ts r) → MayFollow s
         → lists (one_by_one (unfolded xs)) (flat_tokens xs ts r l ++ s) s }
-    // So items to the end are in front of the same rest, where its second token is none of these
-    // words.
+    // For items up to the end, this holds before the same rest, if its second token is not one of
+    // these keywords.
     ensures written { (xs : Items) (ts r : List Tok) (l : lists xs ts r) → ends r ≡ true
         → NoTypeSecond r → lists (one_by_one (unfolded xs)) (flat_tokens xs ts r l ++ r) r }
-    // There the flat form spells the same instructions, without hints.
+    // Before that rest, the flat form spells the same instructions, without hints.
     ensures spelled { (xs : Items) (ts r : List Tok) (l : lists xs ts r) → ends r ≡ true
         → NoTypeSecond r → expression.spells (flat_value (unfolded xs))
         (flat_tokens xs ts r l) r }
-    // A folded instruction is listed again in front of nothing.
+    // The flat form of a folded instruction lists the same instructions before the empty rest.
     ensures folded { (i : Instr) (gs : Groups) (ts r : List Tok) (l : is_folded i gs ts r)
         → lists (one_by_one (unfolded_groups gs ++ i ∷ [])) (flat_folded i gs ts r l) [] }
-    // So is an instruction of any kind that is in front of items in parentheses: behind them,
-    // without an `end`.
+    // The same holds for an instruction of any kind with items after it in one group: the
+    // instruction comes after the items, without an `end`.
     ensures headed { (i : Instr) (xs : Items) (a b r : List Tok) → reads i a b
         → (l : lists xs b (RParen ∷ r)) → lists (one_by_one (unfolded xs ++ i ∷ []))
         (flat_tokens xs b (RParen ∷ r) l ++ own a b) [] }
@@ -84,27 +83,27 @@ pub fn flat_again()
 
 /// The flat form of items is unique, and has the tokens of their instructions.
 pub fn flat_form()
-    // There is one, however the items are listed of the same tokens.
+    // The flat form is the same for each way in which the same tokens list the items.
     ensures one { (xs : Items) (ts r : List Tok) (l k : lists xs ts r) → ends r ≡ true
         → flat_tokens xs ts r l ≡ flat_tokens xs ts r k }
-    // An instruction's own tokens spell it, and what is left is behind them.
+    // An instruction's own tokens spell the instruction, and the rest comes after them.
     ensures own { (i : Instr) (ts m : List Tok) → reads i ts m → (ts ≡ own ts m ++ m)
         × instruction.spells i (own ts m) m }
-    // The flat form has as many of each token as what it is made from, but for the tokens of groups
-    // and hints and the words that are added.
+    // Each token occurs equally often in the flat form and in the listed tokens. Exceptions are the
+    // tokens of groups and hints, and the keywords that can be added.
     ensures as_many { (xs : Items) (ts r : List Tok) (l : lists xs ts r) (test : Tok → Bool)
         → PassesOwnAlone test → how_many test ts ≡ how_many test
         (flat_tokens xs ts r l) + how_many test r }
     ensures as_many_folded { (i : Instr) (gs : Groups) (ts r : List Tok) (l : is_folded i gs ts r)
         (test : Tok → Bool) → PassesOwnAlone test → how_many test ts ≡ how_many test
         (flat_folded i gs ts r l) + how_many test r }
-    // Instructions alone are their own flat form.
+    // Items without groups and hints are their own flat form.
     ensures already { (xs : Items) (ts r : List Tok) (l : lists xs ts r) → AreInstrs xs
         → flat_tokens xs ts r l ++ r ≡ ts }
 {}
 
-/// Sample texts that spell expressions and folded instructions. These are facts about the
-/// definitions alone, so an error that the parser shares with its definition would show here.
+/// Sample texts that spell expressions and folded instructions. These facts use only the
+/// definitions, so they can reveal an error that the parser shares with its definition.
 pub fn expression_rows()
     ensures operands_first { OperandsFirst }
     ensures both_arms { BothArms }

@@ -1,4 +1,4 @@
-//! What is open in an expression.
+//! The open groups of an expression.
 
 ghost use Rattle.std.specs.Prelude.{◌≡◌, ◌<◌, ◌∷◌, ◌++◌, [], List, MatchBool, MatchOption};
 ghost use Rattle.std.specs.Prelude.{MatchResult, length};
@@ -17,25 +17,25 @@ use std::marker::Model;
 use wat_instr::{Instruction, Op};
 use wat_tokens::{Fault, Parser, Result, Span};
 
-/// What kind of group is open.
+/// The kind of an open group.
 #[derive(Clone, Copy, Debug)]
 pub(crate) enum Kind {
-    /// A folded instruction, which is behind what the group holds.
+    /// A folded instruction. In the flat list, it comes after the contents of its group.
     Folded,
-    /// A block, which gets an `end`.
+    /// A block. An `end` is added at its `)`.
     Block,
-    /// An `if`, in front of its `( then`.
+    /// An `if`, before its `( then`.
     If,
-    /// An `if`, behind its `( then .. )`.
+    /// An `if`, after its `( then .. )`.
     AfterThen,
-    /// An `if`, behind its `( else .. )`.
+    /// An `if`, after its `( else .. )`.
     AfterElse,
     /// A `( then` or `( else`.
     Arm,
 }
 
 impl Kind {
-    /// Whether an instruction waits in the group.
+    /// Returns whether an instruction waits in the group.
     #[inline(always)]
     fn holds(self) -> bool
         ensures { MatchBool result (waiting (self ∷ []) ≡ 1) (waiting (self ∷ []) ≡ 0) }
@@ -51,19 +51,19 @@ impl Kind {
     }
 }
 
-/// What is kept of an instruction that waits for the end of its operands, beside it.
+/// The span and the hint of an instruction that waits for the end of its operands.
 #[derive(Clone, Copy, Debug)]
 pub(crate) struct Mark {
-    /// Where its word begins.
+    /// The span of the instruction's keyword.
     pub span: Span,
-    /// The hint that is directly before its item.
+    /// The hint directly before the instruction's item.
     pub hint: Option<u32>,
 }
 
-/// The groups that are open. Contracts see them from the innermost outwards.
+/// The open groups. Contracts see them as a list, the innermost group first.
 ///
-/// Most of them hold no instruction, so kinds and instructions are kept apart; and an instruction
-/// is made where it waits, so it is kept apart from its mark.
+/// Kinds and instructions are in separate lists, because most groups hold no instruction.
+/// Instructions and marks are in separate lists, because an instruction is built in place.
 #[derive(Drop)]
 pub(crate) struct OpenGroups<'a> {
     kinds: Vec<Kind>,
@@ -85,8 +85,8 @@ impl<'a> Model for OpenGroups<'a> {
         s.heads.items)) (reverse s.marks.items) };
 }
 
-/// Puts the last of the instructions that wait behind the others of `out`, where there is room for
-/// it, with its mark. Memory for the hint or the span may be refused.
+/// Moves the last waiting instruction to the end of `out`, with its hint and span. `out` has room
+/// for the instruction. The only error is Memory, for the hint or the span.
 #[inline(always)]
 fn release<'a>(
     heads: &mut Vec<Instruction<'a>>,
@@ -104,7 +104,7 @@ fn release<'a>(
 }
 
 impl<'a> OpenGroups<'a> {
-    /// Nothing is open.
+    /// Returns an empty list of open groups.
     pub(crate) fn new(alloc: Global) -> OpenGroups<'a>
         ensures { result ≡ [] }
     {
@@ -115,7 +115,7 @@ impl<'a> OpenGroups<'a> {
         }
     }
 
-    /// Whether no group is open.
+    /// Returns whether no group is open.
     #[tactic(auto, using(crate::proofs::OpenGroups::top_some))]
     pub(crate) fn is_empty(&self) -> bool
         ensures { MatchBool result (self.now ≡ []) (self.now ≡ [] → ⊥) }
@@ -126,7 +126,7 @@ impl<'a> OpenGroups<'a> {
         }
     }
 
-    /// How many groups are open.
+    /// Returns the number of open groups.
     #[tactic(auto, using(crate::proofs::OpenGroups::height_is))]
     pub(crate) fn height(&self) -> usize
         ensures { result ≡ length self.now }
@@ -134,7 +134,7 @@ impl<'a> OpenGroups<'a> {
         self.kinds.len()
     }
 
-    /// How many instructions wait.
+    /// Returns the number of waiting instructions.
     #[tactic(auto, using(crate::proofs::OpenGroups::held_is))]
     pub(crate) fn held(&self) -> usize
         ensures { result ≡ heads_in self.now }
@@ -142,14 +142,14 @@ impl<'a> OpenGroups<'a> {
         self.heads.len()
     }
 
-    /// The kind of the innermost group.
+    /// Returns the kind of the innermost group, or None if no group is open.
     pub(crate) fn top(&self) -> Option<Kind>
         ensures { TopIs result self.now }
     {
         self.kinds.last().copied()
     }
 
-    /// Whether an instruction can stand alone in the innermost group.
+    /// Returns whether an instruction outside parentheses can be directly in the innermost group.
     pub(crate) fn takes_plain(&self) -> bool
         ensures { MatchBool result (TakesPlain self.now) (TakesPlain self.now → ⊥) }
     {
@@ -161,8 +161,8 @@ impl<'a> OpenGroups<'a> {
         }
     }
 
-    /// Takes the innermost group off, and answers its kind. The instruction that waited in it is
-    /// put behind the others of `out`; Memory may refuse that.
+    /// Removes the innermost group, and returns its kind. If an instruction waits in the group, it
+    /// is appended to `out`. The only error is Memory.
     #[inline(always)]
     #[tactic(auto, using(crate::proofs::OpenGroups::some_kind))]
     pub(crate) fn pop(&mut self, out: &mut Expression<'a>) -> Result<Kind>
@@ -180,7 +180,7 @@ impl<'a> OpenGroups<'a> {
         Ok(kind)
     }
 
-    /// Opens a group of a kind that holds no instruction, or refuses with Memory.
+    /// Opens a group of a kind that holds no instruction. The only error is Memory.
     #[inline(always)]
     pub(crate) fn enter(&mut self, kind: Kind) -> Result<()>
         requires { waiting (kind ∷ []) ≡ 0 }
@@ -191,8 +191,9 @@ impl<'a> OpenGroups<'a> {
         Ok(())
     }
 
-    /// Opens a group of a kind that holds an instruction. Its word was taken; its operand is read,
-    /// and it waits. Memory may be answered.
+    /// Opens a group of a kind that holds an instruction. The keyword of the instruction was taken;
+    /// its operand is read here, and the instruction waits in the group. The error is the first
+    /// error of the operand, or Memory.
     #[inline(always)]
     pub(crate) fn hold(
         &mut self,

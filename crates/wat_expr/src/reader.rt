@@ -22,16 +22,16 @@ use wat_instr::{Instruction, LabelOp, Op, is_block, is_br_if, is_if};
 use wat_tokens::ownership::discard;
 use wat_tokens::{Error, Fault, Parser, Result, Span};
 
-/// What the loop keeps from turn to turn.
+/// The state of the loop between turns.
 #[derive(Drop)]
 pub(crate) struct Reader<'a> {
     pub open_groups: OpenGroups<'a>,
     pub out: Expression<'a>,
-    /// The hint that waits for the item behind it.
+    /// The value of the hint that waits for its item.
     pub pending: Option<u32>,
 }
 
-/// The value of a hint's string: one byte, 0 or 1.
+/// Returns the value of a hint's string, which is the byte 0 or 1. Returns None for other strings.
 fn hint_byte(bytes: &[u8]) -> Option<u32>
     ensures { IsHintByte result bytes.now }
 {
@@ -41,7 +41,7 @@ fn hint_byte(bytes: &[u8]) -> Option<u32>
     }
 }
 
-/// Whether the hint, where one waits, can stand before an instruction of the word.
+/// Returns whether the waiting hint, if any, can precede an instruction with this mnemonic.
 #[inline(always)]
 fn suits(hint: Option<u32>, op: Op) -> bool
     ensures { result ≡ suits_word hint op }
@@ -52,8 +52,8 @@ fn suits(hint: Option<u32>, op: Op) -> bool
     }
 }
 
-/// The refusal of an instruction that the waiting hint can't stand before, behind its word: that of
-/// its operand, or HintTarget at the word.
+/// Returns the error for an instruction that the waiting hint can't precede. Its keyword was taken.
+/// The error is the first error of the operand; without such an error, HintTarget at the keyword.
 #[cold]
 fn unsuited<'a>(op: Op, parser: &mut Parser<'a>) -> Error
     ensures { Steady parser.old parser.new }
@@ -69,8 +69,8 @@ fn unsuited<'a>(op: Op, parser: &mut Parser<'a>) -> Error
     }
 }
 
-/// Takes the word of the instruction that is in front. One that the waiting hint can't stand before
-/// is refused with HintTarget at its word; a fault in its operand comes before that.
+/// Takes the keyword of the next instruction. If the waiting hint can't precede the instruction,
+/// the error is HintTarget at the keyword. An error in the operand comes first.
 #[inline(always)]
 fn take_suited<'a>(parser: &mut Parser<'a>, hint: Option<u32>) -> Result<Op>
     ensures exact { TakesSuited hint result parser.old.left parser.new.left }
@@ -87,7 +87,7 @@ fn take_suited<'a>(parser: &mut Parser<'a>, hint: Option<u32>) -> Result<Op>
     }
 }
 
-/// The kind of a group whose instruction waits in it.
+/// Returns the kind of a group that holds its waiting instruction.
 #[inline(always)]
 fn holder(op: Op) -> Kind
     ensures { result ≡ holder (is_if (op_row op)) }
@@ -96,7 +96,7 @@ fn holder(op: Op) -> Kind
 }
 
 impl<'a> Reader<'a> {
-    /// In front of the first token; spans are kept where `tracks` says so.
+    /// Returns the state before the first token. Spans are kept if `tracks` is true.
     pub(crate) fn new(alloc: Global, tracks: bool) -> Reader<'a>
         ensures open_groups { result.open_groups ≡ [] }
         ensures out { flat result.out ≡ no_output tracks }
@@ -109,7 +109,7 @@ impl<'a> Reader<'a> {
         }
     }
 
-    /// Whether no group is open and nothing follows, or what closes a group does.
+    /// Returns whether no group is open and the next token is `)` or missing.
     pub(crate) fn is_done(&self, parser: &Parser<'a>) -> bool
         ensures { MatchBool result ((self.now.open_groups ≡ [])
             × (ends parser.now.left ≡ true))
@@ -118,7 +118,7 @@ impl<'a> Reader<'a> {
         parser.is_empty() && self.open_groups.is_empty()
     }
 
-    /// One turn: it decides by the token in front.
+    /// One turn. The next token decides the kind of turn.
     pub(crate) fn turn(&mut self, parser: &mut Parser<'a>) -> Result<()>
         requires { self.old.open_groups ≡ [] → ends parser.old.left ≡ true → ⊥ }
         ensures turned { TurnAnswers result (stand self.old parser.old.left)
@@ -138,7 +138,7 @@ impl<'a> Reader<'a> {
         self.plain(parser)
     }
 
-    /// A turn at an instruction alone.
+    /// A turn at an instruction outside parentheses.
     fn plain(&mut self, parser: &mut Parser<'a>) -> Result<()>
         requires no_group { (ts : List Tok) → parser.old.left ≡ LParen ∷ ts → ⊥ }
         requires no_end { ends parser.old.left ≡ false }
@@ -158,7 +158,7 @@ impl<'a> Reader<'a> {
         self.out.read(op, parser, hint, span)
     }
 
-    /// A turn at a closing parenthesis, which was taken; `span` is where it is.
+    /// A turn at a `)` at `span`, which was taken.
     fn close(&mut self, span: Span) -> Result<()>
         requires { self.old.open_groups ≡ [] → ⊥ }
         ensures { (m : List Tok) → TurnAnswers result
@@ -178,7 +178,7 @@ impl<'a> Reader<'a> {
         }
     }
 
-    /// A turn at an opening parenthesis, which was taken.
+    /// A turn at a `(`, which was taken.
     fn open(&mut self, parser: &mut Parser<'a>) -> Result<()>
         ensures turned { TurnAnswers result (stand self.old (LParen ∷ parser.old.left))
             (stand self.new parser.new.left) }
@@ -197,7 +197,7 @@ impl<'a> Reader<'a> {
         }
     }
 
-    /// A turn at `( then`, which was taken; `span` is where the word is.
+    /// A turn at `( then`, which was taken. `span` is the place of the keyword.
     fn open_then(&mut self, span: Span) -> Result<()>
         requires { (i : Instr) × (h : Option ℕ) × (s : List Open)
             × (self.old.open_groups ≡ InIf i h ∷ s) }
@@ -212,7 +212,7 @@ impl<'a> Reader<'a> {
         self.open_groups.enter(Kind::Arm)
     }
 
-    /// A turn at `(` behind `( then .. )`.
+    /// A turn at a `(` after `( then .. )`. The `(` was taken.
     fn open_else(&mut self, parser: &mut Parser<'a>) -> Result<()>
         requires { (s : List Open) × (self.old.open_groups ≡ AfterThen ∷ s) }
         ensures turned { TurnAnswers result (stand self.old (LParen ∷ parser.old.left))
@@ -223,8 +223,8 @@ impl<'a> Reader<'a> {
             return Err(parser.unexpected());
         }
         let span = parser.prev_span();
-        // No hint waits here: none is read behind `( then .. )`, and one inside it is refused at
-        // its `)`. The contract doesn't say so, and a hint that waited would have no place.
+        // No hint waits here. After `( then .. )` no hint is read, and a hint that waits at its
+        // `)` is refused. The contract doesn't state this, so a waiting hint is refused here too.
         if let Some(_) = self.pending {
             return Err(Error::at(Fault::HintPlace, span));
         }
@@ -235,7 +235,7 @@ impl<'a> Reader<'a> {
             .push(Instruction::Label(LabelOp::else_, None), span)
     }
 
-    /// A turn at a group or a hint.
+    /// A turn at a group or a hint, whose `(` was taken.
     fn open_item(&mut self, parser: &mut Parser<'a>) -> Result<()>
         requires place { IsOpen self.old.open_groups }
         requires no_then { (ts : List Tok) → parser.old.left ≡ keyword (codes "then") ∷ ts

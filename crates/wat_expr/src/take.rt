@@ -1,4 +1,4 @@
-//! What takes one token, or an instruction.
+//! Functions that take one token or an instruction.
 
 ghost use Rattle.std.specs.Prelude.{◌≡◌, ◌<◌, ◌++◌, ◌∷◌, [], map, codes, IfOk, IfErr, Err};
 ghost use Rattle.std.specs.Vec.{vec_len, vec_capacity};
@@ -11,7 +11,7 @@ ghost use Rattle.wat_tokens.specs.Token.{LParen, RParen};
 use wat_instr::{Instruction, Op};
 use wat_tokens::{Error, Fault, Parser, Result};
 
-/// Takes a `(` where it is in front, and answers whether it did.
+/// Takes a `(` if it is the next token. Returns whether it was taken.
 #[inline(always)]
 pub(crate) fn take_open(parser: &mut Parser<'_>) -> bool
     ensures exact { TakesIf LParen result parser.old.left parser.new.left }
@@ -20,7 +20,7 @@ pub(crate) fn take_open(parser: &mut Parser<'_>) -> bool
     parser.open().is_ok()
 }
 
-/// Takes a `)` where it is in front, and answers whether it did.
+/// Takes a `)` if it is the next token. Returns whether it was taken.
 #[inline(always)]
 pub(crate) fn take_close(parser: &mut Parser<'_>) -> bool
     ensures exact { TakesIf RParen result parser.old.left parser.new.left }
@@ -29,7 +29,7 @@ pub(crate) fn take_close(parser: &mut Parser<'_>) -> bool
     parser.close().is_ok()
 }
 
-/// Takes the keyword where it is in front, and answers whether it did.
+/// Takes the keyword `text` if it is the next token. Returns whether it was taken.
 pub(crate) fn take_word(parser: &mut Parser<'_>, text: &str) -> bool
     ensures exact { TakesIf (keyword text.now) result parser.old.left parser.new.left }
     ensures steady { Steady parser.old parser.new }
@@ -37,7 +37,7 @@ pub(crate) fn take_word(parser: &mut Parser<'_>, text: &str) -> bool
     parser.keyword(text).is_ok()
 }
 
-/// Takes the annotation of a branch hint where it is in front, and answers whether it did.
+/// Takes the annotation of a branch hint if it is the next token. Returns whether it was taken.
 pub(crate) fn take_hint_name(parser: &mut Parser<'_>) -> bool
     ensures exact { TakesIf hint_name result parser.old.left parser.new.left }
     ensures steady { Steady parser.old parser.new }
@@ -48,7 +48,8 @@ pub(crate) fn take_hint_name(parser: &mut Parser<'_>) -> bool
     parser.take_annotation("metadata.code.branch_hint").is_ok()
 }
 
-/// Takes the word of an instruction that is in front, or refuses with Operator at it.
+/// Takes the keyword of an instruction. If the next token is no such keyword, the error is Operator
+/// at that token.
 #[inline(always)]
 pub(crate) fn take_op(parser: &mut Parser<'_>) -> Result<Op>
     ensures exact { TakesOp result parser.old.left parser.new.left }
@@ -57,11 +58,11 @@ pub(crate) fn take_op(parser: &mut Parser<'_>) -> Result<Op>
     Op::take(parser)
 }
 
-/// For how many instructions an empty list gets room: more than most expressions have.
+/// The number of instructions that an empty list gets room for: more than most expressions have.
 const USUAL: usize = 32;
 
-/// Makes room for one instruction more, or refuses with Memory. A list that is empty gets room for
-/// as many as most expressions have, so that it isn't moved as it grows.
+/// Makes room for one more instruction. An empty list gets room for `USUAL` instructions, so that
+/// most lists aren't moved as they grow. The only error is Memory.
 #[inline(always)]
 pub(crate) fn make_room<'a>(out: &mut Vec<Instruction<'a>>) -> Result<()>
     ensures room { IfOk result (λ _. vec_len out.new < vec_capacity out.new) }
@@ -76,8 +77,9 @@ pub(crate) fn make_room<'a>(out: &mut Vec<Instruction<'a>>) -> Result<()>
     Ok(())
 }
 
-/// Takes the operand of the instruction whose word was taken, and puts the instruction behind the
-/// others of the list. Where it is refused, they are all that is there. Memory may be answered.
+/// Parses the operand of an instruction after its keyword, and appends the instruction to `out`.
+/// The error is the first error of the operand, or Memory. After an error, `out` has the same
+/// instructions as before.
 #[inline(always)]
 pub(crate) fn read_behind<'a>(
     op: Op,
@@ -94,7 +96,8 @@ pub(crate) fn read_behind<'a>(
     Instruction::read_operand(op, parser, out)
 }
 
-/// Takes the string that is in front and answers its bytes, or refuses with Unexpected.
+/// Takes a string, and returns its bytes. If the next token is not a string, the error is
+/// Unexpected.
 pub(crate) fn take_string<'a>(parser: &mut Parser<'a>) -> Result<&'a [u8]>
     ensures exact { TakesString (λ s. s.now) result parser.old.left parser.new.left }
     ensures steady { Steady parser.old parser.new }
@@ -102,8 +105,8 @@ pub(crate) fn take_string<'a>(parser: &mut Parser<'a>) -> Result<&'a [u8]>
     parser.take_string()
 }
 
-/// Answers the refusal.
-// Written where a refusal is handed on, its moves would stand in the way of what isn't refused too.
+/// Returns the error.
+// The call is not inlined: inline, the moves of the error would also slow the path without error.
 #[cold]
 #[inline(never)]
 pub(crate) fn refuse(refused: Error) -> Result<()>

@@ -1,4 +1,4 @@
--- Texts as tokens, and the element segments and tables that they spell: what is read of them.
+-- Texts as tokens, and the element segments and tables that they spell: the values read from them.
 use Rattle.std.proofs.Common.{◌≡◌, List, [], ◌∷◌, ◌++◌, Some, refl}
 use Rattle.std.specs.Prelude.{codes}
 use Rattle.wat_tokens.specs.Index.{number}

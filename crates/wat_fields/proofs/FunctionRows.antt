@@ -1,4 +1,4 @@
--- Texts as tokens, and the functions, globals and tags that they spell: what is read of them.
+-- Texts as tokens, and the functions, globals and tags that they spell: the values read from them.
 use Rattle.std.proofs.Common.{[], ◌∷◌, Some, None, refl}
 use Rattle.std.specs.Char.{encode_utf8}
 use Rattle.std.specs.Prelude.{codes}

@@ -1,4 +1,4 @@
--- A head that is behind what follows it.
+-- A head that comes after its items in the expression.
 use Rattle.std.proofs.Common.{◌≡◌, List, [], ◌∷◌, ◌++◌, map, Some, refl, ap, sym}
 use Rattle.std.proofs.lemmas.List.{map_push}
 use Rattle.wat_tokens.specs.Laws.Filled.{filled_behind}
@@ -13,7 +13,7 @@ use Rattle.wat_expr.specs.ExpressionProduction.{expression}
 use Rattle.wat_expr.specs.declared.expression.Expression.{Expression}
 use Rattle.wat_fields.specs.Offset.{head_behind, head_last}
 
--- what is read with a head has an instruction
+-- an expression that is read with a head has an instruction
 pub never_bare : (t : List Tok) → NotBare bare_expression (head_last.reads t)
 unfolding head_last
 never_bare t =
@@ -26,12 +26,12 @@ never_bare t =
 made_read : {A B : Type 0} (f : A → B) (g : Production A) (t r : List Tok) (v : A) → g.reads t ≡ Some (v, r) → (made f g).reads t ≡ Some (f v, r)
 made_read f g t r v e = rw e refl
 
--- what is read, where an instruction and items are
+-- the expression that is read from an instruction and items
 pub head_read : (t r : List Tok) (i : Instr) (e : Expr) → (seq instruction expression).reads t ≡ Some ((i, e), r) → head_last.reads t ≡ Some (head_behind i e, r)
 unfolding head_last
 head_read t r i e is = made_read (λ v. head_behind v.0 v.1) (seq instruction expression) t r (i, e) is
 
--- what is seen of an expression behind which an instruction was put
+-- the view of an expression after an instruction was appended
 pub put_view : (x y : Expression) (i : Instruction) → y.instrs.items ≡ x.instrs.items ++ i ∷ [] → y.branch_hints ≡ x.branch_hints → head_behind (instruction_view i) (expression_view x) ≡ expression_view y
 put_view x y i is hints =
     rw (is, hints) (ap (λ (is : List Instr). record { instrs = is; hints = map hint_view x.branch_hints.items }) (sym (map_push instruction_view x.instrs.items i)))

@@ -1,4 +1,4 @@
--- Lists of values that are read one behind the other.
+-- Lists of values that are read one after the other.
 use Rattle.std.proofs.Common.{◌≡◌, ℕ, List, map}
 use Rattle.std.proofs.lemmas.List.{map-id}
 use Rattle.wat_tokens.specs.Laws.Filled.{filled_behind}
@@ -9,14 +9,14 @@ use Rattle.wat_fields.specs.Laws.Numbers.{vector_consumes}
 use Rattle.wat_fields.specs.Laws.Payload.{item_consumes}
 use Rattle.wat_fields.specs.Laws.RefFuncs.{ref_func_consumes}
 
--- bytes, seen one by one
+-- the view of bytes, one by one
 pub bytes_again : (xs : List ℕ) → map (λ b. b) xs ≡ xs
 bytes_again xs = map-id xs
 
--- the bytes of one number, put behind others
+-- the bytes of one number, appended to others
 pub ruleset bytes_put = (bytes_again, filled_behind)
 
--- the bytes of numbers, or the locals of groups, one behind the other
+-- the bytes of numbers, or the locals of groups, one after the other
 pub ruleset joins = (joined_reads, local_group_consumes, vector_consumes, bytes_again)
 
 -- each value of a list takes a token

@@ -1,4 +1,4 @@
--- Where the expressions of fields keep spans: what the functions' proofs need.
+-- Where the expressions of fields keep spans: lemmas for the functions' proofs.
 use Rattle.std.proofs.Common.{◌≡◌, ℕ, Bool, true, false, ◌&&◌, List, [], ◌∷◌, ◌++◌, length, Option, Some, None, refl, ap, subst, sym, ◌∙◌, arith, length-append}
 use Rattle.std.specs.Prelude.{Vec, codes, eqb}
 use Rattle.std.proofs.lemmas.Bool.{eqb-true, eq-eqb}
@@ -23,7 +23,7 @@ use Rattle.wat_fields.specs.declared.payload.ElemPayload.{ElemPayload}
 use Rattle.wat_fields.specs.declared.table.TableKind.{TableKind}
 use Rattle.wat_fields.specs.Spans.{is_many, OffsetSpansAre, DataSpansAre, offset_behind, data_front, PayloadSpansAre, ElemSpansAre, TableSpansAre, items_behind, inline_front, table_front}
 
--- ---- whether spans are kept, said in another way
+-- ---- whether spans are kept, in another form
 
 pub same_spans : (a b : Bool) (e : Expression) → a ≡ b → SpansAre a e → SpansAre b e
 same_spans a b e k h = subst (λ (c : Bool). SpansAre c e) k h
@@ -46,14 +46,14 @@ same_listed_spans v w a b p k l h = subst (λ (c : Bool). PayloadSpansAre (w && 
 pub same_table_spans : (v w a b : Bool) (t : TableKind) → v ≡ w → a ≡ b → TableSpansAre v a t → TableSpansAre w b t
 same_table_spans v w a b t k l h = subst (λ (c : Bool). TableSpansAre w c t) l (subst (λ (c : Bool). TableSpansAre c a t) k h)
 
--- ---- an instruction behind the others
+-- ---- an instruction after the others
 
 many_behind : {A : Type 0} (i x : A) (xs : List A) → is_many ((x ∷ xs) ++ i ∷ []) ≡ true
 many_behind i x [] = refl
 many_behind i x (y ∷ r) = refl
 
 module _ {A S : Type 0} where
-  -- what `SpansAre` says of the spans and the instructions
+  -- `SpansAre` of the spans and the instructions
   abbrev pub Spans : Bool → Option (Vec S Global) → List A → Type 0
   Spans keeps spans xs =
       elim spans [
@@ -68,7 +68,7 @@ module _ {A S : Type 0} where
   added keeps s i xs ys None (Some w) h e k = absurd cc
   added keeps s i xs ys None None h e k = h
 
-  -- behind others, the spans are as many as before and one more
+  -- after other instructions, there is one more span than before
   pub put_behind : (tracks is_empty : Bool) (n : ℕ) (s : S) (i : A) (xs ys : List A) (o p : Option (Vec S Global)) → n ≡ length xs → is_empty ≡ eqb n 0 → is_empty ≡ false → Spans tracks o xs → kept_spans p ≡ and_span s (kept_spans o) → ys ≡ xs ++ i ∷ [] → Spans (is_many ys && tracks) p ys
   put_behind tracks is_empty n s i [] ys o p l b f h e k =
       absurd (let t : eqb n 0 ≡ true = eq-eqb n 0 l in cc)
@@ -76,14 +76,14 @@ module _ {A S : Type 0} where
       let many : is_many ys ≡ true = rw k (many_behind i x xs) in
       subst (λ (b : Bool). Spans (b && tracks) p ys) (sym many) (added tracks s i (x ∷ xs) ys o p h e k)
 
-  -- alone, it has none
+  -- a single instruction has no spans
   pub put_alone : (tracks is_empty : Bool) (n : ℕ) (i : A) (xs ys : List A) (p : Option (Vec S Global)) → n ≡ length xs → is_empty ≡ eqb n 0 → is_empty ≡ true → kept_spans p ≡ None → ys ≡ xs ++ i ∷ [] → Spans (is_many ys && tracks) p ys
   put_alone tracks is_empty n i [] ys (Some w) l b f e k = absurd cc
   put_alone tracks is_empty n i [] ys None l b f e k = rw k refl
   put_alone tracks is_empty n i (x ∷ xs) ys p l b f e k =
       absurd (let t : n ≡ 0 = eqb-true n 0 (sym b ∙ f) in omega (arith, l, t))
 
--- ---- what is behind one token
+-- ---- the tokens after one token
 
 pub second_behind : {A : Type 0} (f : Tok → Option A) (test : List Tok → Bool) (t r : List Tok) (v : A) → one_reads f t ≡ Some (v, r) → second test t ≡ test r
 second_behind {A = A} f test [] r v e = none_is_not {A = A} (v, r) e
@@ -95,25 +95,25 @@ second_behind {A = A} f test (x ∷ t) r v e =
 
 -- ---- data segments
 
--- the word behind the memory and `(`
+-- the word after the memory and `(`
 pub offset_behind_memory : (t a b : List Tok) (m : Idx) (u : Unit {0}) → data_memory.reads t ≡ Some (m, a) → one_reads as_lparen a ≡ Some (u, b) → begins_word (codes "offset") b ≡ offset_behind (data_memory.reads t)
 offset_behind_memory t a b m u e f = rw e (sym (second_behind as_lparen (begins_word (codes "offset")) a b u f))
 
--- the same behind `data id? name?`
+-- the same after `data id? name?`
 pub offset_behind_front : (t a b : List Tok) (l : Label) → one_reads (word_only (codes "data")) t ≡ Some (tt, a) → label.reads a ≡ Some (l, b) → offset_behind (data_memory.reads b) ≡ offset_behind (data_front.reads t)
 unfolding data_front
 offset_behind_front t a b l e f = rw (e, f) (by_read (data_memory.reads b) (λ x k. rw k refl) (λ k. rw k refl))
 
 -- ---- tables
 
--- the `(` behind the type, `(` and `elem`
+-- the `(` after the type, `(` and `elem`
 pub items_behind_type : (t a b r o w : List Tok) (shared is64 : Bool) (ty : RefTy) (u v : Unit {0}) → (flag (codes "shared")).reads t ≡ Some (shared, a) → is_64.reads a ≡ Some (is64, b) → ref_type.reads b ≡ Some (ty, r) → one_reads as_lparen r ≡ Some (u, o) → one_reads (word_only (codes "elem")) o ≡ Some (v, w)
     → begins_lparen w ≡ items_behind (inline_front.reads t)
 unfolding inline_front
 items_behind_type t a b r o w shared is64 ty u v e f g h k =
     rw (e, f, g) (sym (second_behind as_lparen (second begins_lparen) r o u h ∙ second_behind (word_only (codes "elem")) begins_lparen o w v k))
 
--- the same behind `table` and a head
+-- the same after `table` and a head
 pub items_behind_front : (t a b : List Tok) (h : FieldHeadTy) → one_reads (word_only (codes "table")) t ≡ Some (tt, a) → head.reads a ≡ Some (h, b) → items_behind (inline_front.reads b) ≡ items_behind (table_front.reads t)
 unfolding table_front
 items_behind_front t a b h e f = rw (e, f) (by_read (inline_front.reads b) (λ x k. rw k refl) (λ k. rw k refl))

@@ -18,9 +18,9 @@ use Rattle.wat_fields.specs.declared.data.Data.{Data}
 use Rattle.wat_fields.specs.declared.data.DataKind.{DataKind}
 use Rattle.wat_fields.specs.declared.data.DataKind.TheVariants as code
 
--- ---- what contracts see
+-- ---- views
 
--- into a memory, at an offset; or nowhere by itself
+-- active in a memory, at an offset; or passive
 pub data DataKindTy : Type 0 where
   passive : DataKindTy
   active : Idx → Expr → DataKindTy
@@ -57,12 +57,12 @@ begins_passive (RParen ∷ r) = true
 begins_passive (String s ∷ r) = true
 begins_passive t = begins_numbers t
 
--- the second token is `memory`, whatever the first is
+-- the second token is `memory`, whatever the first token is
 abbrev pub memory_follows : List Tok → Bool
 memory_follows t = second (begins_word (codes "memory")) t
 
--- u32, where an Integer comes next; ( memory idx ), where the second token is `memory`; else
--- nothing, memory 0
+-- u32 if an Integer is next; ( memory idx ) if the second token is `memory`; otherwise nothing,
+-- memory 0
 unfoldable pub data_memory : Production Idx
 data_memory =
     where_else begins_integer (made number (unsigned 32))
@@ -72,7 +72,7 @@ data_memory =
 unfoldable pub data_active : Production DataKindTy
 data_active = made (λ v. active v.0 v.1) (seq data_memory (paren offset_inside))
 
--- passive, where that begins; else active
+-- passive if `)`, a string or a group of numbers is next; otherwise active
 unfoldable pub data_kind : Production DataKindTy
 data_kind = made (λ k. unwrap_or k passive) (opt (λ t. not (begins_passive t)) data_active)
 

@@ -10,14 +10,14 @@ use Rattle.wat_fields.specs.Numbers.{number_list}
 use Rattle.wat_fields.specs.declared.data_val.DataVal.{DataVal}
 use Rattle.wat_fields.specs.declared.data_val.DataVal.TheVariants as code
 
--- ---- what contracts see
+-- ---- views
 
--- the bytes of a string, or those of numbers
+-- the bytes of a string, or the bytes of numbers
 pub data DataValTy : Type 0 where
   written : List ℕ → DataValTy
   numbers : List ℕ → DataValTy
 
--- all its bytes, in order
+-- all bytes of a value, in order
 abbrev pub bytes_in : DataValTy → List ℕ
 bytes_in (written bs) = bs
 bytes_in (numbers bs) = bs
@@ -36,6 +36,6 @@ bare_val (numbers bs) = no_items bs
 
 -- ---- the grammar
 
--- where `(` comes next, ( numbers ); else bytes
+-- ( numbers ) if `(` is next; otherwise bytes
 unfoldable pub data_val : Production DataValTy
 data_val = where_else begins_lparen (made numbers (paren number_list)) (made written string)

@@ -19,15 +19,15 @@ use Rattle.wat_fields.specs.declared.elem.ElemKind.TheVariants as code
 use Rattle.wat_fields.specs.declared.elem.Elem.{Elem}
 use Rattle.wat_fields.specs.declared.payload.ElemPayload.{ElemPayload}
 
--- ---- what contracts see
+-- ---- views
 
--- passive; declared; or active, in a table, where one is written, and at an offset
+-- passive; declared; or active, in a table if a table is written, and at an offset
 pub data ElemKindTy : Type 0 where
   passive : ElemKindTy
   declared : ElemKindTy
   active : Option Idx → Expr → ElemKindTy
 
--- a kind, and what the segment holds
+-- the mode and the elements of a segment
 abbrev pub Segment : Type 0
 Segment = ElemKindTy × PayloadTy
 
@@ -63,11 +63,11 @@ bare_elem e = bare_segment e.segment
 
 -- ---- the grammar
 
--- where the second token is `offset`, ( offset Expression ); else a folded instruction
+-- ( offset Expression ) if the second token is `offset`; otherwise a folded instruction
 unfoldable pub elem_offset : Production Expr
 elem_offset = written_or_folded (codes "offset")
 
--- an active segment, of its table, its offset and what it holds
+-- an active segment, made of its table, its offset and its elements
 abbrev pub active_of : Option Idx × (Expr × PayloadTy) → Segment
 active_of v = (active v.0 v.1.0, v.1.1)
 
@@ -77,11 +77,11 @@ in_table =
     made active_of (seq (made (λ i. Some i) (group (codes "table") index))
     (seq elem_offset payload))
 
--- u32, where an Integer comes next
+-- u32 if an Integer is next
 unfoldable pub table_number : Production (Option Idx)
 table_number = opt begins_integer (made number (unsigned 32))
 
--- u32 or nothing, and then an offset and a payload, which may be indices alone
+-- u32 or nothing, and then an offset and a payload, which can be indices alone
 unfoldable pub in_some_table : Production Segment
 in_some_table = made active_of (seq table_number (seq elem_offset payload_or_indices))
 
@@ -93,22 +93,22 @@ declared_segment = made (λ p. (declared, p)) (after_word (codes "declare") payl
 unfoldable pub passive_segment : Production Segment
 passive_segment = made (λ p. (passive, p)) payload
 
--- an Integer, or `(` that begins no RefType
+-- an Integer, or `(` that doesn't begin a RefType
 abbrev pub begins_active : List Tok → Bool
 begins_active t = begins_integer t || (begins_lparen t && not (begins_ref t))
 
--- in the table that is written, where `(` and `table` come next; else in that of the number, or in
--- one that isn't written
+-- in a written table if `(` and `table` are next; otherwise in the table of the number, or in a
+-- table that isn't written
 unfoldable pub active_segment : Production Segment
 active_segment = where_else (begins_group (codes "table")) in_table in_some_table
 
--- declared where `declare` comes next; active where an Integer comes next, or `(` that begins no
--- RefType; else passive
+-- declared if `declare` is next; active if an Integer is next, or `(` that doesn't begin a RefType;
+-- otherwise passive
 unfoldable pub segment : Production Segment
 segment =
     where_else (begins_word (codes "declare")) declared_segment
     (where_else begins_active active_segment passive_segment)
 
--- `elem id? name?`, and then a kind and what it holds
+-- `elem id? name?`, and then the mode and the elements
 unfoldable pub elem : Production ElemTy
 elem = after_word (codes "elem") (made (λ v. elem_of v.0 v.1) (seq label segment))

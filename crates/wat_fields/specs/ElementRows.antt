@@ -50,7 +50,7 @@ abbrev pub nulls_text : List Tok
 nulls_text =
     Keyword (codes "table") ∷ Integer (codes "1") ∷ Keyword (codes "funcref") ∷ in_parens null_text
 
--- at least one element, and what `ref.null func` says for each
+-- at least one element, and the initial value `ref.null func` for each element
 abbrev pub nulls : TableFieldTy
 nulls =
     table_of no_head
@@ -80,8 +80,7 @@ two_items =
           (ref_func_of (number 0) ∷ alone null_func ∷ []),
     )
 
--- `elem funcref (item ref.func 0) (ref.null func)`: an item that is written out, and a folded one,
--- put nowhere
+-- `elem funcref (item ref.func 0) (ref.null func)`: a written item and a folded item, passive
 abbrev pub OfItems : Type 0
 OfItems = Spelled elem items_text two_items
 

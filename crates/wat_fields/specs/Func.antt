@@ -21,9 +21,9 @@ use Rattle.wat_fields.specs.declared.func.Func.{Func}
 use Rattle.wat_fields.specs.declared.func.FuncKind.{FuncKind}
 use Rattle.wat_fields.specs.declared.func.FuncKind.TheVariants as code
 
--- ---- what contracts see
+-- ---- views
 
--- imported under two names, of exactly its type or not; or with locals and a body
+-- an import by its two names, with an exact type or not; or locals and a body
 pub data FuncKindTy : Type 0 where
   imported : List ℕ × List ℕ → Bool → FuncKindTy
   inline : List LocalTy → Expr → FuncKindTy
@@ -32,7 +32,7 @@ pub data FuncKindTy : Type 0 where
 abbrev pub FuncUse : Type 0
 FuncUse = UseTy FuncTy
 
--- a type, and how a function of it is defined
+-- the type and the definition of a function
 abbrev pub DefinedFunc : Type 0
 DefinedFunc = FuncUse × FuncKindTy
 
@@ -84,10 +84,10 @@ func_import = made (λ v. (v.1.0, imported v.0 v.1.1)) (seq inline_import exact_
 unfoldable pub func_inline : Production DefinedFunc
 func_inline = made (λ v. (v.0, inline v.1.0 v.1.1)) (seq func_use (seq locals expression))
 
--- where an import in line begins, that; else a type use, locals and a body
+-- an inline import if one is next; otherwise a type use, locals and a body
 unfoldable pub func_defined : Production DefinedFunc
 func_defined = where_else begins_inline_import func_import func_inline
 
--- `func` head, and then a type and how the function is defined
+-- `func` head, and then the type and the definition of the function
 unfoldable pub func : Production FuncFieldTy
 func = after_word (codes "func") (made (λ v. func_of v.0 v.1) (seq head func_defined))

@@ -22,8 +22,7 @@ locals_and_body =
     ++ (in_parens (Keyword (codes "local") ∷ Id (codes "x") ∷ Keyword (codes "f32") ∷ [])
     ++ Keyword (codes "nop") ∷ [])
 
--- `func (local i32 i64) (local $x f32) nop`: three locals, of which the last is $x, and an
--- instruction
+-- `func (local i32 i64) (local $x f32) nop`: three locals, the last of them $x, and an instruction
 abbrev pub Locals : Type 0
 Locals =
     Spelled func (Keyword (codes "func") ∷ locals_and_body)

@@ -14,14 +14,14 @@ use Rattle.wat_fields.specs.declared.global.Global.{Global}
 use Rattle.wat_fields.specs.declared.global.GlobalKind.{GlobalKind}
 use Rattle.wat_fields.specs.declared.global.GlobalKind.TheVariants as code
 
--- ---- what contracts see
+-- ---- views
 
--- imported under two names, or with its first value
+-- an import by its two names, or an initial value
 pub data GlobalKindTy : Type 0 where
   imported : List ℕ × List ℕ → GlobalKindTy
   inline : Expr → GlobalKindTy
 
--- a type, and how a global of it is defined
+-- the type and the definition of a global
 abbrev pub DefinedGlobal : Type 0
 DefinedGlobal = GlobalTy × GlobalKindTy
 
@@ -58,13 +58,13 @@ bare_global g = bare_head g.head && bare_global_kind g.kind
 
 -- ---- the grammar
 
--- where an import in line begins, InlineImport GlobalType; else GlobalType Expression
+-- InlineImport GlobalType if an inline import is next; otherwise GlobalType Expression
 unfoldable pub global_defined : Production DefinedGlobal
 global_defined =
     where_else begins_inline_import
     (made (λ v. (v.1, imported v.0)) (seq inline_import global_type))
     (made (λ v. (v.0, inline v.1)) (seq global_type expression))
 
--- `global` head, and then a type and how the global is defined
+-- `global` head, and then the type and the definition of the global
 unfoldable pub global : Production GlobalFieldTy
 global = after_word (codes "global") (made (λ v. global_of v.0 v.1) (seq head global_defined))

@@ -8,10 +8,10 @@ use Rattle.wat_expr.specs.Expression.{Expr}
 use Rattle.wat_expr.specs.ExpressionProduction.{expression}
 use Rattle.wat_expr.specs.FoldedProduction.{folded_instruction}
 
--- where the second token is the word w, ( w Expression ); else a folded instruction
+-- ( w Expression ) if the second token is the word w; otherwise a folded instruction
 unfoldable pub written_or_folded : List ℕ → Production Expr
 written_or_folded w = where_else (second (begins_word w)) (group w expression) folded_instruction
 
--- where the second token is `item`, ( item Expression ); else a folded instruction
+-- ( item Expression ) if the second token is `item`; otherwise a folded instruction
 unfoldable pub item : Production Expr
 item = written_or_folded (codes "item")

@@ -12,9 +12,9 @@ use Rattle.wat_types.specs.Laws.Value.{val_type_consumes}
 use Rattle.wat_fields.specs.declared.local.Local.{Local}
 use Rattle.wat_fields.specs.declared.local.LocalParser.{LocalParser}
 
--- ---- what contracts see
+-- ---- views
 
--- a local: what names it, and its type
+-- a local: its identifier and name, and its type
 pub record LocalTy : Type 0 where
   pub label : Label
   pub ty : ValTy
@@ -45,7 +45,7 @@ plain_local = made (local_of no_label) val_type
 unfoldable pub plain_locals : Production (List LocalTy)
 plain_locals = many more plain_local val_type_consumes
 
--- where an id or a name begins, id? name? ValType; else ValType*, to the end
+-- id? name? ValType if an id or a name is next; otherwise ValType*, to the end
 unfoldable pub listed_locals : Production (List LocalTy)
 listed_locals = where_else begins_label labelled_local plain_locals
 
@@ -57,6 +57,6 @@ local_parser = after_word (codes "local") listed_locals
 abbrev pub local_group : Production (List LocalTy)
 local_group = paren local_parser
 
--- one more group has to follow: the second token is `local`, whatever the first is
+-- a further group has to follow: the second token is `local`, whatever the first token is
 abbrev pub local_follows : List Tok → Bool
 local_follows t = second (begins_word (codes "local")) t

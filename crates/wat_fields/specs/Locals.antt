@@ -5,6 +5,6 @@ use Rattle.wat_tokens.specs.Joined.{joined}
 use Rattle.wat_fields.specs.Local.{LocalTy, local_group, local_follows}
 use Rattle.wat_fields.specs.Laws.Local.{local_group_consumes}
 
--- ( LocalParser )*, as long as one has to follow; the locals of all, in order
+-- ( LocalParser )*, as long as a group has to follow; the locals of all groups, in order
 unfoldable pub locals : Production (List LocalTy)
 locals = joined local_follows local_group local_group_consumes

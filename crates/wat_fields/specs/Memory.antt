@@ -18,10 +18,10 @@ use Rattle.wat_fields.specs.declared.memory.Memory.{Memory}
 use Rattle.wat_fields.specs.declared.memory.MemoryKind.{MemoryKind}
 use Rattle.wat_fields.specs.declared.memory.MemoryKind.TheVariants as code
 
--- ---- what contracts see
+-- ---- views
 
--- from where it is imported, and its type; its type; whether addresses have 64 bits, the size of a
--- page, and what it holds
+-- an import and a type; a type; or inline data: whether addresses have 64 bits, the page size, and
+-- the data
 pub data MemoryKindTy : Type 0 where
   imported : List ℕ × List ℕ → MemoryType → MemoryKindTy
   normal : MemoryType → MemoryKindTy
@@ -68,8 +68,8 @@ begins_inline_data t =
     begins_lparen t || ((begins_word (codes "i32") t || begins_word (codes "i64") t)
     && second begins_lparen t)
 
--- where an import in line begins, InlineImport MemoryType; where data in line begins, that; else
--- MemoryType
+-- InlineImport MemoryType if an inline import is next; inline data if inline data is next;
+-- otherwise MemoryType
 unfoldable pub memory_kind : Production MemoryKindTy
 memory_kind =
     where_else begins_inline_import (made (λ v. imported v.0 v.1) (seq inline_import memory_type))

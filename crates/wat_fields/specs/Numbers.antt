@@ -14,7 +14,7 @@ use Rattle.wat_fields.specs.Laws.Numbers.{vector_consumes}
 
 -- ---- one number, as its bytes, the lowest first
 
--- the bytes of an integer of the width: a negative one is by two's complement
+-- the bytes of an integer of the width; negative integers are in two's complement
 abbrev pub integer_bytes : Width → ℤ → List ℕ
 integer_bytes w n = to_le_bytes w (cast_unsigned w n)
 
@@ -22,17 +22,17 @@ integer_bytes w n = to_le_bytes w (cast_unsigned w n)
 abbrev pub integer_as_bytes : Width → ℕ → Production (List ℕ)
 integer_as_bytes w n = made (integer_bytes w) (signed n)
 
--- a number of floating point, as the bytes of its bits: no tokens spell one
+-- a floating-point number, as the bytes of its bits: no tokens spell such a number
 abbrev pub float_as_bytes : Width → Production (List ℕ)
 float_as_bytes w = made (to_le_bytes w) none
 
--- ---- the word of a kind, and numbers of it to the end
+-- ---- the keyword of a number type, and numbers of that type to the end
 
 -- w g*, to the end, as all their bytes in order
 abbrev pub all_behind : List ℕ → (g : Production (List ℕ)) → 1 ≤ g.least → Production (List ℕ)
 all_behind w g consumes = after_word w (joined more g consumes)
 
--- `v128` V128Const* | `f32`, and `f64`, with no number, since none has a spelling
+-- `v128` V128Const* | `f32` | `f64`; no tokens spell a floating-point number
 unfoldable pub other_numbers : Production (List ℕ)
 other_numbers =
     where_else (begins_word (codes "f32")) (all_behind (codes "f32") (float_as_bytes w32) (lit≤ tt))
@@ -58,14 +58,14 @@ number_list =
     (all_behind (codes "i16") (integer_as_bytes w16 16) (lit≤ tt))
     wide_numbers)
 
--- ---- what begins a group of numbers
+-- ---- the beginning of a group of numbers
 
 abbrev pub begins_integers : List Tok → Bool
 begins_integers t =
     begins_group (codes "i8") t || begins_group (codes "i16") t || begins_group (codes "i32") t
     || begins_group (codes "i64") t
 
--- `(`, and the word of a kind
+-- `(`, and the keyword of a number type
 abbrev pub begins_numbers : List Tok → Bool
 begins_numbers t =
     begins_integers t || begins_group (codes "f32") t || begins_group (codes "f64") t

@@ -1,4 +1,4 @@
--- What an element segment holds.
+-- The elements of an element segment.
 use Rattle.std.specs.Prelude.{Bool, true, false, if◌then◌else◌, ◌&&◌, List, [], ◌∷◌, codes, map}
 use Rattle.std.proofs.Common.{lit≤}
 use Rattle.wat_tokens.specs.Tests.{begins_word, more, begins_lparen}
@@ -20,9 +20,9 @@ use Rattle.wat_fields.specs.declared.payload.ElemPayload.TheVariants as code
 use Rattle.wat_fields.specs.Item.{item}
 use Rattle.wat_fields.specs.Laws.Payload.{item_consumes}
 
--- ---- what contracts see
+-- ---- views
 
--- indices of functions; or expressions, and the type of each
+-- indices of functions; or expressions, and the type of each expression
 pub data PayloadTy : Type 0 where
   indices : List Idx → PayloadTy
   exprs : RefTy → List Expr → PayloadTy
@@ -57,24 +57,24 @@ abbrev pub is_func : HeapTy → Bool
 is_func (abstract_ false heap_word.Func) = true
 is_func _ = false
 
--- the type that `funcref` is
+-- the type `funcref`
 abbrev pub is_funcref : RefTy → Bool
 is_funcref t = t.nullable && is_func t.heap
 
--- ---- behind a type in line
+-- ---- after an inline type
 
 -- indices as they are written, or expressions
 pub data ListedTy : Type 0 where
   by_index : List Idx → ListedTy
   by_item : List Expr → ListedTy
 
--- what is listed, as a payload of the type: indices are indices where it is `funcref`, and else a
--- `ref.func` of each
+-- the listed elements, as a payload of the type: indices stay indices if the type is `funcref`;
+-- otherwise each index becomes a `ref.func`
 abbrev pub of_type : RefTy → ListedTy → PayloadTy
 of_type t (by_index is) = if is_funcref t then indices is else exprs t (map ref_func_of is)
 of_type t (by_item es) = exprs t es
 
--- items where `(` comes next, else indices
+-- items if `(` is next, otherwise indices
 unfoldable pub listed : Production ListedTy
 listed = where_else begins_lparen (made by_item item_list) (made by_index index_list)
 
@@ -84,12 +84,12 @@ listed = where_else begins_lparen (made by_item item_list) (made by_index index_
 unfoldable pub typed_elems : Production PayloadTy
 typed_elems = made (λ v. exprs v.0 v.1) (seq ref_type item_list)
 
--- `func` indices, where `func` comes next; else RefType items
+-- `func` indices if `func` is next; otherwise RefType items
 unfoldable pub payload : Production PayloadTy
 payload = where_else (begins_word (codes "func"))
     (made indices (after_word (codes "func") index_list)) typed_elems
 
--- `func` indices, where `func` comes next; RefType items, where a type comes next; else indices
+-- `func` indices if `func` is next; RefType items if a type is next; otherwise indices
 unfoldable pub payload_or_indices : Production PayloadTy
 payload_or_indices =
     where_else (begins_word (codes "func")) (made indices (after_word (codes "func") index_list))

@@ -1,5 +1,5 @@
--- Indices that are read as expressions of one `ref.func` each. Private functions' contracts need it
--- alone.
+-- Indices that are read as expressions of one `ref.func` each. Only contracts of private functions
+-- use these definitions.
 use Rattle.std.specs.Prelude.{List}
 use Rattle.wat_tokens.specs.Tests.{more}
 use Rattle.wat_tokens.specs.Production.{Production}
@@ -11,7 +11,7 @@ use Rattle.wat_fields.specs.Payload.{PayloadTy, indices, exprs, by_index, of_typ
 use Rattle.wat_fields.specs.RefFunc.{ref_func}
 use Rattle.wat_fields.specs.Laws.RefFuncs.{ref_func_consumes}
 
--- idx*, to the end, each as `ref.func` of it
+-- idx*, to the end, each as `ref.func` of that index
 unfoldable pub ref_funcs : Production (List Expr)
 ref_funcs = many more ref_func ref_func_consumes
 
@@ -19,10 +19,10 @@ ref_funcs = many more ref_func ref_func_consumes
 unfoldable pub indices_of : RefTy → Production PayloadTy
 indices_of ty = made (of_type ty) (made by_index index_list)
 
--- the same where it is the type that `funcref` is
+-- the same, for the type `funcref`
 unfoldable pub plain_indices : Production PayloadTy
 plain_indices = made indices index_list
 
--- the same of another type
+-- the same, for another type
 unfoldable pub ref_funcs_of : RefTy → Production PayloadTy
 ref_funcs_of ty = made (λ v. exprs ty v) ref_funcs

@@ -36,7 +36,7 @@ SharedMemory =
           None;
     })))
 
--- `data (i32 1)` and `data "ab" (i16 1 -1)` are put nowhere; a number's lowest byte is its first
+-- `data (i32 1)` and `data "ab" (i16 1 -1)` are passive; the lowest byte of a number comes first
 abbrev pub PassiveData : Type 0
 PassiveData =
     Spelled data_segment (Keyword (codes "data")
@@ -56,12 +56,12 @@ abbrev pub block_text : List Tok
 block_text =
     Keyword (codes "data") ∷ in_parens (Keyword (codes "block") ∷ Keyword (codes "nop") ∷ [])
 
--- into memory 0, at what `nop` and then `block` say
+-- active in memory 0, with the offset `nop` and then `block`
 abbrev pub head_behind_nop : DataTy
 head_behind_nop =
     data_of no_label (active (number 0) (record { instrs = nop ∷ plain_block ∷ []; hints = [] })) []
 
--- `data (block nop)` is put into memory 0, at what `nop` and then `block` say: the head is last,
--- and no `end` is added
+-- `data (block nop)` is active in memory 0, with the offset `nop` and then `block`: the head comes
+-- last, and no `end` is added
 abbrev pub HeadLast : Type 0
 HeadLast = Spelled data_segment block_text head_behind_nop

@@ -1,10 +1,10 @@
 -- Where the expressions of fields keep spans.
 --
--- Each that is read as an expression or as a folded instruction has as many spans as instructions
--- where the parser tracks them, and else none (`SpansAre`). Two have none, whatever the parser
--- tracks: the `ref.func` that an index of a table in line becomes, and the abbreviated offset of a
--- data segment where it is one instruction, without operands. `SpansAre false` says that an
--- expression has none.
+-- An expression that is read as an expression or as a folded instruction has one span for each
+-- instruction if the parser tracks spans, and otherwise no spans (`SpansAre`). Two kinds of
+-- expressions never have spans: the `ref.func` that an index of an inline table becomes, and the
+-- abbreviated offset of a data segment, if the offset is one instruction without operands.
+-- `SpansAre false` means that an expression has no spans.
 use Rattle.std.specs.Prelude.{Bool, true, false, ◌&&◌, ◌||◌, List, [], ◌∷◌, codes, Some, None}
 use Rattle.std.specs.Prelude.{All, IfSome}
 use Rattle.wat_tokens.specs.Token.{Tok}
@@ -34,12 +34,12 @@ use Rattle.wat_fields.specs.declared.table.TableKind.TheVariants as table_code
 
 -- ---- functions and globals
 
--- those of a body
+-- the spans of a function's body
 abbrev pub FuncSpansAre : Bool → FuncKind → Type 0
 FuncSpansAre tracks (func_code.Import i b) = Unit {0}
 FuncSpansAre tracks (func_code.Inline ls e) = SpansAre tracks e
 
--- those of the first value
+-- the spans of a global's initial value
 abbrev pub GlobalSpansAre : Bool → GlobalKind → Type 0
 GlobalSpansAre tracks (global_code.Import i) = Unit {0}
 GlobalSpansAre tracks (global_code.Inline e) = SpansAre tracks e
@@ -51,21 +51,21 @@ is_many [] = false
 is_many (x ∷ []) = false
 is_many (x ∷ y ∷ r) = true
 
--- more than one instruction, the last with operands
+-- more than one instruction: the last instruction has operands
 abbrev pub has_operands : Expression → Bool
 has_operands e = is_many e.instrs.items
 
--- those of an offset, which is written with the word `offset` or abbreviated: an abbreviated one
--- without operands has none
+-- the spans of an offset, written with the word `offset` or abbreviated: an abbreviated offset
+-- without operands has no spans
 abbrev pub OffsetSpansAre : Bool → Bool → Expression → Type 0
 OffsetSpansAre is_written tracks e = SpansAre ((is_written || has_operands e) && tracks) e
 
--- those of an active segment's offset
+-- the spans of the offset of an active segment
 abbrev pub DataSpansAre : Bool → Bool → DataKind → Type 0
 DataSpansAre is_written tracks data_code.Passive = Unit {0}
 DataSpansAre is_written tracks (data_code.Active m e) = OffsetSpansAre is_written tracks e
 
--- the second token behind what was read is `offset`
+-- the second token after the tokens that were read is `offset`
 abbrev pub offset_behind : {A : Type 0} → Read A → Bool
 offset_behind (Some x) = second (begins_word (codes "offset")) x.1
 offset_behind None = false
@@ -74,50 +74,49 @@ offset_behind None = false
 unfoldable pub data_front : Production (Label × Idx)
 data_front = after_word (codes "data") (seq label data_memory)
 
--- its offset is written with the word
+-- the offset of the data segment is written with the word `offset`
 abbrev pub is_offset_written : List Tok → Bool
 is_offset_written t = offset_behind (data_front.reads t)
 
--- ---- what element segments hold
+-- ---- the contents of element segments
 
--- those of each expression
+-- the spans of each expression of a payload
 abbrev pub PayloadSpansAre : Bool → ElemPayload → Type 0
 PayloadSpansAre keeps (payload_code.Indices v) = Unit {0}
 PayloadSpansAre keeps (payload_code.Exprs t v) = All (λ e. SpansAre keeps e) v.items
 
--- those of an active segment's offset
+-- the spans of the offset of an active segment
 abbrev pub ElemKindSpansAre : Bool → ElemKind → Type 0
 ElemKindSpansAre tracks elem_code.Passive = Unit {0}
 ElemKindSpansAre tracks elem_code.Declared = Unit {0}
 ElemKindSpansAre tracks (elem_code.Active t e) = SpansAre tracks e
 
--- those of the offset and of each expression that it holds
+-- the spans of the offset and of each expression of an element segment
 abbrev pub ElemSpansAre : Bool → ElemKind × ElemPayload → Type 0
 ElemSpansAre tracks s = ElemKindSpansAre tracks s.0 × PayloadSpansAre tracks s.1
 
 -- ---- tables
 
--- those of the expression of each element; and of what is listed in line, where it is items: an
--- index has none
+-- the spans of the initial value of a table, or of its inline items: an inline index has no spans
 abbrev pub TableSpansAre : Bool → Bool → TableKind → Type 0
 TableSpansAre of_items tracks (table_code.Import i t) = Unit {0}
 TableSpansAre of_items tracks (table_code.Normal t e) = IfSome e (λ x. SpansAre tracks x)
 TableSpansAre of_items tracks (table_code.Inline t is64 shared p) =
     PayloadSpansAre (of_items && tracks) p
 
--- the third token behind what was read is `(`
+-- the third token after the tokens that were read is `(`
 abbrev pub items_behind : {A : Type 0} → Read A → Bool
 items_behind (Some x) = second (second begins_lparen) x.1
 items_behind None = false
 
--- a table in line behind its head, up to `( elem`
+-- a table with inline elements, from after its head up to `( elem`
 unfoldable pub inline_front : Production (Bool × (Bool × RefTy))
 inline_front = seq (flag (codes "shared")) (seq is_64 ref_type)
 
--- a table in line up to `( elem`
+-- a table with inline elements, up to `( elem`
 unfoldable pub table_front : Production (FieldHeadTy × (Bool × (Bool × RefTy)))
 table_front = after_word (codes "table") (seq head inline_front)
 
--- behind `( elem` items are listed, which begin with `(`
+-- after `( elem` items are listed, which begin with `(`
 abbrev pub has_items : List Tok → Bool
 has_items t = items_behind (table_front.reads t)

@@ -20,11 +20,11 @@ use Rattle.wat_fields.specs.declared.table.Table.{Table}
 use Rattle.wat_fields.specs.declared.table.TableKind.{TableKind}
 use Rattle.wat_fields.specs.declared.table.TableKind.TheVariants as code
 
--- ---- what contracts see
+-- ---- views
 
--- imported, by the names of the import and a type; by its type, with the expression of each element
--- or without; or in line: the type of its elements, whether its addresses have 64 bits, whether it
--- is shared, and what it holds
+-- an import, by its names and a type; a type, with or without the initial value of each element; or
+-- inline elements: the type of an element, whether addresses have 64 bits, whether the table is
+-- shared, and the elements
 pub data TableKindTy : Type 0 where
   imported : List ℕ × List ℕ → TableTy → TableKindTy
   normal : TableTy → Option Expr → TableKindTy
@@ -80,7 +80,7 @@ inline_table =
     made inline_of (seq (flag (codes "shared"))
     (seq is_64 (seq ref_type (group (codes "elem") listed))))
 
--- TableType, and then an Expression where not empty
+-- TableType, and then an Expression if the group goes on
 unfoldable pub normal_table : Production TableKindTy
 normal_table = made (λ v. normal v.0 v.1) (seq table_type (opt more expression))
 
@@ -88,8 +88,8 @@ normal_table = made (λ v. normal v.0 v.1) (seq table_type (opt more expression)
 unfoldable pub imported_table : Production TableKindTy
 imported_table = made (λ v. imported v.0 v.1) (seq inline_import table_type)
 
--- in line where a RefType comes next, or one of `shared`, `i32`, `i64` and then a RefType; by its
--- type where one of these words or an Integer comes next; else imported
+-- inline elements if a RefType is next, or one of `shared`, `i32`, `i64` and then a RefType; a type
+-- if one of these words or an Integer is next; otherwise an import
 unfoldable pub table_kind : Production TableKindTy
 table_kind =
     where_else begins_inline_elems inline_table

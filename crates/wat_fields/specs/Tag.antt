@@ -14,9 +14,9 @@ use Rattle.wat_fields.specs.declared.tag.Tag.{Tag}
 use Rattle.wat_fields.specs.declared.tag.TagKind.{TagKind}
 use Rattle.wat_fields.specs.declared.tag.TagKind.TheVariants as code
 
--- ---- what contracts see
+-- ---- views
 
--- a tag: the two names under which it is imported, where it is, and its type
+-- a tag: the two names of its import, if it is imported, and its type
 pub record TagTy : Type 0 where
   pub head : FieldHeadTy
   pub import : Option (List ℕ × List ℕ)

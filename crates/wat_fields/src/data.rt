@@ -31,7 +31,7 @@ pub struct Data<'a> {
     /// Whether the segment is active, that is, copied into a memory when the module is
     /// instantiated.
     pub kind: DataKind<'a>,
-    /// The values of the segment. Its bytes are the bytes of these, in order.
+    /// The values of the segment. The bytes of the segment are the bytes of these values, in order.
     pub data: Vec<DataVal<'a>>,
 }
 
@@ -43,16 +43,17 @@ pub enum DataKind<'a> {
     Passive,
     /// The segment is copied when the module is instantiated.
     Active {
-        /// The memory: memory 0 if none is written. Only an index in `( memory idx )` has its own
-        /// span. The span of a number alone, and of memory 0 if none is written, is that of the
-        /// keyword `data`.
+        /// The memory; memory 0 if no memory is written. An index in `( memory idx )` has its own
+        /// span. A number alone, or memory 0 that isn't written, has the span of the keyword
+        /// `data`.
         memory: Index<'a>,
         /// The offset in the memory.
         offset: Expression<'a>,
     },
 }
 
-/// The memory that a segment is put into; `span` is where a memory is that isn't written.
+/// Parses the memory of an active segment. A number alone, or memory 0 that isn't written, gets
+/// `span` as its span.
 #[tactic(auto, unfolding(crate::specs::Data::data_memory))]
 fn read_memory<'a>(parser: &mut Parser<'a>, span: Span) -> Result<Index<'a>>
     ensures reads { Reads (plain index_view) data_memory result parser.old parser.new }
@@ -67,7 +68,7 @@ fn read_memory<'a>(parser: &mut Parser<'a>, span: Span) -> Result<Index<'a>>
     in_word_group(parser, "memory")
 }
 
-/// Whether what makes a segment passive is in front: `)`, a string, or a group of numbers.
+/// Whether the segment is passive: `)`, a string, or a group of numbers is next.
 fn passive_next(parser: &Parser<'_>) -> bool
     ensures { result ≡ begins_passive parser.now.left }
 {
@@ -75,7 +76,7 @@ fn passive_next(parser: &Parser<'_>) -> bool
     cursor.rparen().is_some() || cursor.string().is_some() || numbers_next(parser)
 }
 
-/// A memory and an offset.
+/// Parses a memory and an offset.
 #[tactic(auto, unfolding(crate::specs::Data::data_active))]
 fn read_active<'a>(parser: &mut Parser<'a>, span: Span) -> Result<DataKind<'a>>
     ensures reads { ReadsAt turns_too (owning data_kind_view bare_data_kind) data_active result
@@ -90,7 +91,8 @@ fn read_active<'a>(parser: &mut Parser<'a>, span: Span) -> Result<DataKind<'a>>
     Ok(DataKind::Active { memory, offset })
 }
 
-/// Passive, where that is in front, else active.
+/// Parses the mode of a segment: nothing if the segment is passive, otherwise a memory and an
+/// offset.
 #[tactic(auto, unfolding(crate::specs::Data::data_kind))]
 fn read_data_kind<'a>(parser: &mut Parser<'a>, span: Span) -> Result<DataKind<'a>>
     ensures reads { ReadsAt turns_too (owning data_kind_view bare_data_kind) data_kind result
@@ -113,12 +115,12 @@ fn read_data_kind<'a>(parser: &mut Parser<'a>, span: Span) -> Result<DataKind<'a
 /// - the memory: its number, `( memory idx )`, or nothing;
 /// - the offset: `( offset` expression `)`, or its abbreviation, `(` instruction, items `)`.
 ///
-/// In an abbreviated offset the instruction comes after its items. If it has no items, it has no
-/// span.
+/// In the expression of an abbreviated offset the instruction comes after the items. Without items,
+/// the expression has no spans.
 ///
-/// The errors: Range at an index that is out of range; Operator at a token that isn't an
-/// instruction's keyword, where an abbreviated offset needs one; the errors of [`Expression`] and
-/// of [`DataVal`]; Memory; and Unexpected for anything else.
+/// The errors: Range at an index that is out of range; Operator if an abbreviated offset needs an
+/// instruction's keyword and another token is next; the errors of [`Expression`] and of
+/// [`DataVal`]; Memory; and Unexpected for anything else.
 impl<'a> Parse<'a> for Data<'a> {
     ghost View = { DataTy };
 

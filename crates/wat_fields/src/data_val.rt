@@ -43,13 +43,13 @@ impl<'a> DataVal<'a> {
         }
     }
 
-    /// Appends the bytes to a list. The only error is Memory; the list is then unchanged. It never
-    /// comes if there are no bytes.
+    /// Appends the bytes to a list. The only error is Memory, and only if there are bytes to
+    /// append; the list is then unchanged.
     pub fn push_onto(&self, dst: &mut Vec<u8>) -> Result<()>
         ensures put { MatchResult result (λ _. dst.new.items ≡ dst.old.items ++ bytes_in
             (data_val_view self.now)) (λ e. (e.fault ≡ Fault.Memory)
             × (dst.new.items ≡ dst.old.items)) }
-        // The list grows by as many bytes as `len` answers.
+        // The list grows by `len` bytes.
         ensures grows { IfOk result (λ _. length dst.new.items ≡ length dst.old.items + length
             (bytes_in (data_val_view self.now))) }
         ensures some { IfErr result (λ _. no_items (bytes_in (data_val_view self.now)) ≡ false) }
@@ -89,7 +89,7 @@ impl<'a> Parse<'a> for DataVal<'a> {
     }
 }
 
-/// Values, to the end.
+/// Parses values up to the end of the group.
 #[tactic(auto, using(crate::proofs::Lists::consumes), unfolding(crate::specs::DataVals::data_vals))]
 pub(crate) fn read_vals<'a>(parser: &mut Parser<'a>) -> Result<Vec<DataVal<'a>>>
     ensures reads { Reads (owning (λ v. data_vals_view v.items) no_items) data_vals result

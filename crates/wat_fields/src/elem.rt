@@ -44,18 +44,18 @@ pub enum ElemKind<'a> {
     Declared,
     /// The segment is copied into a table when the module is instantiated.
     Active {
-        /// The table, if one is written. The span of a number without the keyword `table` is that
-        /// of the keyword `elem`.
+        /// The table, if a table is written. A number without the keyword `table` has the span of
+        /// the keyword `elem`.
         table: Option<Index<'a>>,
         /// The offset in the table.
         offset: Expression<'a>,
     },
 }
 
-/// A kind, and what the segment holds.
+/// The mode and the elements of a segment.
 type Segment<'a> = (ElemKind<'a>, ElemPayload<'a>);
 
-/// `( offset Expression )` where the second token is `offset`, else a folded instruction.
+/// Parses `( offset Expression )` if the second token is `offset`, otherwise a folded instruction.
 #[tactic(auto, unfolding(crate::specs::Elem::elem_offset))]
 fn read_offset<'a>(parser: &mut Parser<'a>) -> Result<Expression<'a>>
     ensures reads { ReadsAt turns_too (owning expression_view bare_expression) elem_offset result
@@ -65,7 +65,7 @@ fn read_offset<'a>(parser: &mut Parser<'a>) -> Result<Expression<'a>>
     read_written_or_folded(parser, "offset")
 }
 
-/// `( table idx )`, an offset and a payload.
+/// Parses `( table idx )`, an offset and a payload.
 #[tactic(auto, unfolding(crate::specs::Elem::in_table))]
 fn read_in_table<'a>(parser: &mut Parser<'a>) -> Result<Segment<'a>>
     ensures reads { ReadsAt turns_too (owning segment_view bare_segment) in_table result parser.old
@@ -78,7 +78,7 @@ fn read_in_table<'a>(parser: &mut Parser<'a>) -> Result<Segment<'a>>
     Ok((ElemKind::Active { table, offset }, payload))
 }
 
-/// The table of a number, where one is in front; `span` is where it is said to be.
+/// Parses the number of a table, if an integer is next. The index gets `span` as its span.
 #[tactic(auto, unfolding(crate::specs::Elem::table_number))]
 fn read_table_number<'a>(parser: &mut Parser<'a>, span: Span) -> Result<Option<Index<'a>>>
     ensures reads { Reads (plain (λ o. option_view index_view o)) table_number result parser.old
@@ -91,7 +91,7 @@ fn read_table_number<'a>(parser: &mut Parser<'a>, span: Span) -> Result<Option<I
     Ok(Some(Index::Num(number, span)))
 }
 
-/// A table's number or nothing, an offset, and a payload, which may be indices alone.
+/// Parses the number of a table or nothing, an offset, and a payload, which can be indices alone.
 #[tactic(auto, unfolding(crate::specs::Elem::in_some_table))]
 fn read_in_some_table<'a>(parser: &mut Parser<'a>, span: Span) -> Result<Segment<'a>>
     ensures reads { ReadsAt turns_too (owning segment_view bare_segment) in_some_table result
@@ -104,7 +104,7 @@ fn read_in_some_table<'a>(parser: &mut Parser<'a>, span: Span) -> Result<Segment
     Ok((ElemKind::Active { table, offset }, payload))
 }
 
-/// An active segment.
+/// Parses the contents of an active segment.
 #[tactic(auto, unfolding(crate::specs::Elem::active_segment))]
 fn read_active<'a>(parser: &mut Parser<'a>, span: Span) -> Result<Segment<'a>>
     ensures reads { ReadsAt turns_too (owning segment_view bare_segment) active_segment result
@@ -117,7 +117,7 @@ fn read_active<'a>(parser: &mut Parser<'a>, span: Span) -> Result<Segment<'a>>
     read_in_some_table(parser, span)
 }
 
-/// `declare`, and a payload.
+/// Parses `declare` and a payload.
 #[tactic(auto, unfolding(crate::specs::Elem::declared_segment))]
 fn read_declared<'a>(parser: &mut Parser<'a>) -> Result<Segment<'a>>
     ensures reads { ReadsAt turns_too (owning segment_view bare_segment) declared_segment result
@@ -129,7 +129,7 @@ fn read_declared<'a>(parser: &mut Parser<'a>) -> Result<Segment<'a>>
     Ok((ElemKind::Declared, payload))
 }
 
-/// A payload alone.
+/// Parses a payload alone.
 #[tactic(auto, unfolding(crate::specs::Elem::passive_segment))]
 fn read_passive<'a>(parser: &mut Parser<'a>) -> Result<Segment<'a>>
     ensures reads { ReadsAt turns_too (owning segment_view bare_segment) passive_segment result
@@ -140,7 +140,7 @@ fn read_passive<'a>(parser: &mut Parser<'a>) -> Result<Segment<'a>>
     Ok((ElemKind::Passive, payload))
 }
 
-/// Whether an integer is in front, or a `(` that begins no reference type.
+/// Whether an integer is next, or a `(` that doesn't begin a reference type.
 fn active_next(parser: &Parser<'_>) -> bool
     ensures { result ≡ begins_active parser.now.left }
 {
@@ -150,7 +150,7 @@ fn active_next(parser: &Parser<'_>) -> bool
     parser.opens() && !parser.peek::<RefType>()
 }
 
-/// A kind, and what the segment holds; `span` is where the word `elem` begins.
+/// Parses the mode and the elements of a segment. `span` is the place of the keyword `elem`.
 #[tactic(auto, unfolding(crate::specs::Elem::segment))]
 fn read_segment<'a>(parser: &mut Parser<'a>, span: Span) -> Result<Segment<'a>>
     ensures reads { ReadsAt turns_too (owning segment_view bare_segment) segment result parser.old
@@ -172,17 +172,17 @@ fn read_segment<'a>(parser: &mut Parser<'a>, span: Span) -> Result<Segment<'a>>
 /// The next token decides the mode:
 ///
 /// - `declare`: the segment is declared;
-/// - an integer, or a `(` that doesn't begin a reference type: it is active. Its table is that of
-///   the number, that of `( table idx )`, or none is written. Its offset is `( offset Expression )`
-///   or a folded instruction;
-/// - anything else: it is passive.
+/// - an integer, or a `(` that doesn't begin a reference type: the segment is active. Its table is
+///   the number, the index of `( table idx )`, or not written. Its offset is
+///   `( offset Expression )` or a folded instruction;
+/// - anything else: the segment is passive.
 ///
 /// The elements are `func` and indices, or a reference type and items. An item is
 /// `( item Expression )` or a folded instruction. After an offset without `( table idx )` the
 /// elements can also be indices alone.
 ///
 /// The errors, each at the next token: Range for an index or a table's number that is out of range;
-/// Operator if something else is next where an instruction's keyword is needed; the errors of
+/// Operator if an instruction's keyword is needed and another token is next; the errors of
 /// [`Expression`] and of a reference type; Memory; and Unexpected for anything else.
 impl<'a> Parse<'a> for Elem<'a> {
     ghost View = { ElemTy };

@@ -47,10 +47,10 @@ pub enum FuncKind<'a> {
     },
 }
 
-/// What is behind a function's head: its type, and how it is defined.
+/// The type and the definition of a function, which come after its head.
 type Defined<'a> = (TypeUse<'a, FunctionType<'a>>, FuncKind<'a>);
 
-/// An import in line, and a type use, exact or not.
+/// Parses an inline import, and a type use, exact or not.
 #[tactic(auto, unfolding(crate::specs::Func::func_import))]
 fn read_import<'a>(parser: &mut Parser<'a>) -> Result<Defined<'a>>
     ensures reads { Reads (owning defined_func_view bare_defined_func) func_import result parser.old
@@ -62,7 +62,7 @@ fn read_import<'a>(parser: &mut Parser<'a>) -> Result<Defined<'a>>
     Ok((ty, FuncKind::Import(import, is_exact)))
 }
 
-/// A type use, locals and a body.
+/// Parses a type use, locals and a body.
 #[tactic(auto, unfolding(crate::specs::Func::func_inline))]
 fn read_inline<'a>(parser: &mut Parser<'a>) -> Result<Defined<'a>>
     ensures reads { ReadsAt turns_too (owning defined_func_view bare_defined_func) func_inline
@@ -75,7 +75,7 @@ fn read_inline<'a>(parser: &mut Parser<'a>) -> Result<Defined<'a>>
     Ok((ty, FuncKind::Inline { locals, expression }))
 }
 
-/// What is behind the head.
+/// Parses the type and the definition of a function, after its head.
 #[tactic(auto, unfolding(crate::specs::Func::func_defined))]
 fn read_defined<'a>(parser: &mut Parser<'a>) -> Result<Defined<'a>>
     ensures reads { ReadsAt turns_too (owning defined_func_view bare_defined_func) func_defined
@@ -95,11 +95,13 @@ fn read_defined<'a>(parser: &mut Parser<'a>) -> Result<Defined<'a>>
 ///   `( exact` type use `)`;
 /// - otherwise a type use, groups `( local .. )`, and an [`Expression`].
 ///
-/// The second token decides: `exact` begins an exact type use, and groups of locals go on as long
-/// as it is `local`. If the token before it isn't `(`, that token is the error Unexpected.
+/// The second token decides: if it is `exact`, an exact type use is next; if it is `local`, a group
+/// of locals is next. If the first token isn't `(` then, the error is Unexpected, at the first
+/// token.
 ///
-/// The errors: Unexpected at another token than `func`; those of the parts. After the locals they
-/// are those of an expression: a group of another kind is the error Operator, at its keyword.
+/// The errors: Unexpected if the next token isn't `func`; the errors of the parts. After the locals
+/// come the errors of an [`Expression`]: a group of another kind is the error Operator, at its
+/// keyword.
 impl<'a> Parse<'a> for Func<'a> {
     ghost View = { FuncFieldTy };
 

@@ -39,7 +39,7 @@ pub enum GlobalKind<'a> {
     Inline(Expression<'a>),
 }
 
-/// What is behind the head: the type, and how the global is defined.
+/// Parses the type and the definition of a global, after the head.
 #[tactic(auto, unfolding(crate::specs::Global::global_defined))]
 fn read_defined<'a>(parser: &mut Parser<'a>) -> Result<(GlobalType<'a>, GlobalKind<'a>)>
     ensures reads { ReadsAt turns_too (owning defined_global_view bare_defined_global)
@@ -61,9 +61,9 @@ fn read_defined<'a>(parser: &mut Parser<'a>) -> Result<(GlobalType<'a>, GlobalKi
 /// - if `(`, `import`, two strings and `)` are next: that inline import and a global type;
 /// - otherwise a global type and an [`Expression`].
 ///
-/// The errors: Unexpected at another token than `global`; those of the parts. After the type they
-/// are those of an expression: an inline import there is the error Operator, at the keyword
-/// `import`.
+/// The errors: Unexpected if the next token isn't `global`; the errors of the parts. After the type
+/// come the errors of an [`Expression`]: an inline import there is the error Operator, at the
+/// keyword `import`.
 impl<'a> Parse<'a> for Global<'a> {
     ghost View = { GlobalFieldTy };
 

@@ -34,7 +34,7 @@ pub struct LocalParser<'a> {
     pub locals: Vec<Local<'a>>,
 }
 
-/// A local without a label, as long as the group goes on.
+/// A local without an identifier and a name. Such locals go on up to the end of the group.
 struct PlainLocal;
 
 impl<'a> Part<'a, Local<'a>> for PlainLocal {
@@ -60,7 +60,7 @@ impl<'a> Part<'a, Local<'a>> for PlainLocal {
     }
 }
 
-/// A local with an identifier or a name, put behind those that are there.
+/// Parses a local with an identifier or a name, and appends it to the list.
 #[tactic(auto, unfolding(crate::specs::Local::labelled_local))]
 fn read_labelled<'a>(parser: &mut Parser<'a>, out: &mut Vec<Local<'a>>) -> Result<()>
     ensures reads { Call tokens_alone (owning (λ _. locals_view out.new.items) no_items)
@@ -74,7 +74,7 @@ fn read_labelled<'a>(parser: &mut Parser<'a>, out: &mut Vec<Local<'a>>) -> Resul
     Ok(())
 }
 
-/// The locals behind the word `local`, each put behind those that are there.
+/// Parses the locals after the keyword `local`, and appends each local to the list.
 #[tactic(auto, using(wat_types::specs::Laws::Value::val_type_consumes), unfolding(crate::specs::Local::listed_locals, crate::specs::Local::plain_locals))]
 fn read_listed<'a>(parser: &mut Parser<'a>, out: &mut Vec<Local<'a>>) -> Result<()>
     ensures reads { Call tokens_alone (owning (λ _. locals_view out.new.items) no_items)
@@ -93,7 +93,7 @@ fn read_listed<'a>(parser: &mut Parser<'a>, out: &mut Vec<Local<'a>>) -> Result<
 /// - an identifier, a name annotation or both, and one value type;
 /// - value types up to the end of the group.
 ///
-/// The errors: Unexpected at another token than `local`; those of the parts.
+/// The errors: Unexpected if the next token isn't `local`; the errors of the parts.
 impl<'a> Parse<'a> for LocalParser<'a> {
     ghost View = { List LocalTy };
 
@@ -110,7 +110,7 @@ impl<'a> Parse<'a> for LocalParser<'a> {
     }
 }
 
-/// `( LocalParser )`, as long as the second token is `local`.
+/// `( LocalParser )`. Such groups go on as long as the second token is `local`.
 struct LocalGroup;
 
 impl<'a> Group<'a, Local<'a>> for LocalGroup {
@@ -137,8 +137,9 @@ impl<'a> Group<'a, Local<'a>> for LocalGroup {
 }
 
 impl<'a> Local<'a> {
-    /// The locals of all groups, in order: groups go on as long as the second token is `local`,
-    /// whatever the first is. Where that is no `(`, it is refused with Unexpected, at the first.
+    /// Parses the locals of all groups, in order. Groups go on as long as the second token is
+    /// `local`, whatever the first token is. If the first token isn't `(`, the error is Unexpected,
+    /// at the first token.
     #[tactic(auto, using(crate::proofs::Lists::joins), unfolding(crate::specs::Locals::locals))]
     pub(crate) fn parse_remainder(parser: &mut Parser<'a>) -> Result<Vec<Local<'a>>>
         ensures reads { Reads (owning (λ ls. locals_view ls.items) no_items) locals result

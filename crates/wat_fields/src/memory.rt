@@ -52,7 +52,7 @@ pub enum MemoryKind<'a> {
     },
 }
 
-/// Whether `(` is in front, or `i32` or `i64` and then `(`.
+/// Whether `(` is next, or `i32` or `i64` and then `(`.
 fn inline_next(parser: &Parser<'_>) -> bool
     ensures { result ≡ begins_inline_data parser.now.left }
 {
@@ -66,8 +66,8 @@ fn inline_next(parser: &Parser<'_>) -> bool
     }
 }
 
-/// What a memory holds, in line: `i32`, `i64` or neither, the size of a page or not, and `( data`
-/// values `)`.
+/// Parses the inline contents of a memory: `i32`, `i64` or neither, an optional page size, and
+/// `( data` values `)`.
 #[tactic(auto, unfolding(crate::specs::Memory::inline_memory))]
 fn read_inline<'a>(parser: &mut Parser<'a>) -> Result<MemoryKind<'a>>
     ensures reads { Reads (owning memory_kind_view bare_memory_kind) inline_memory result parser.old
@@ -86,7 +86,7 @@ fn read_inline<'a>(parser: &mut Parser<'a>) -> Result<MemoryKind<'a>>
     })
 }
 
-/// How a memory is defined, behind its head.
+/// Parses the definition of a memory, after its head.
 #[tactic(auto, unfolding(crate::specs::Memory::memory_kind))]
 fn read_memory_kind<'a>(parser: &mut Parser<'a>) -> Result<MemoryKind<'a>>
     ensures reads { Reads (owning memory_kind_view bare_memory_kind) memory_kind result parser.old

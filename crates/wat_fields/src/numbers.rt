@@ -14,8 +14,8 @@ use wat_operands::V128Const;
 use wat_tokens::repeat::{Group, all_groups};
 use wat_tokens::{F32, F64, Fault, Parse, Parser, Result};
 
-/// Puts bytes behind the others. Memory refuses it, where there are any, and then the list is as it
-/// was.
+/// Appends bytes to a list. The only error is Memory, and only if there are bytes to append; the
+/// list is then unchanged.
 pub(crate) fn append(out: &mut Vec<u8>, bytes: &[u8]) -> Result<()>
     ensures put { MatchResult result (λ _. out.new.items ≡ out.old.items ++ bytes.now) (λ e.
         (e.fault ≡ Fault.Memory) × (out.new.items ≡ out.old.items)) }
@@ -117,7 +117,7 @@ impl<'a> Group<'a, u8> for I64Bytes {
     }
 }
 
-/// Numbers of floating point of 32 bits.
+/// Floating-point numbers of 32 bits.
 struct F32Bytes;
 
 impl<'a> Group<'a, u8> for F32Bytes {
@@ -140,7 +140,7 @@ impl<'a> Group<'a, u8> for F32Bytes {
     }
 }
 
-/// Numbers of floating point of 64 bits.
+/// Floating-point numbers of 64 bits.
 struct F64Bytes;
 
 impl<'a> Group<'a, u8> for F64Bytes {
@@ -163,7 +163,7 @@ impl<'a> Group<'a, u8> for F64Bytes {
     }
 }
 
-/// Constants of 128 bits.
+/// Vector constants of 128 bits.
 struct V128Bytes;
 
 impl<'a> Group<'a, u8> for V128Bytes {
@@ -186,7 +186,8 @@ impl<'a> Group<'a, u8> for V128Bytes {
     }
 }
 
-/// `f32` and `f64`, behind which no number can be read, or `v128` and constants.
+/// Parses `v128` and constants, or `f32` or `f64` without a number: no floating-point number can be
+/// read.
 #[tactic(auto, using(crate::proofs::Lists::joins), unfolding(crate::specs::Numbers::other_numbers))]
 fn read_other<'a>(parser: &mut Parser<'a>) -> Result<Vec<u8>>
     ensures reads { Reads (owning (λ v. v.items) no_items) other_numbers result parser.old
@@ -202,7 +203,7 @@ fn read_other<'a>(parser: &mut Parser<'a>) -> Result<Vec<u8>>
     all_groups::<u8, V128Bytes>(parser)
 }
 
-/// `i32` or `i64` and integers of so many bits, or other numbers.
+/// Parses `i32` or `i64` and integers of that width, or the numbers of `read_other`.
 #[tactic(auto, using(crate::proofs::Lists::joins), unfolding(crate::specs::Numbers::wide_numbers))]
 fn read_wide<'a>(parser: &mut Parser<'a>) -> Result<Vec<u8>>
     ensures reads { Reads (owning (λ v. v.items) no_items) wide_numbers result parser.old
@@ -217,11 +218,11 @@ fn read_wide<'a>(parser: &mut Parser<'a>) -> Result<Vec<u8>>
     read_other(parser)
 }
 
-/// The word of a kind of numbers, and numbers of it to the end: all their bytes in order.
+/// Parses the keyword of a number type, and numbers of that type up to the end of the group.
+/// Returns all bytes of the numbers, in order.
 ///
-/// An integer is read with a sign: it is refused with Range, at the integer, where it is out of
-/// range. A number behind `f32` or `f64` is refused with FloatLiteral, and another word in front
-/// with Unexpected, at the word.
+/// An integer can have a sign. The errors: Range at an integer that is out of range; FloatLiteral
+/// for a number after `f32` or `f64`; Unexpected at another keyword.
 #[tactic(auto, using(crate::proofs::Lists::joins), unfolding(crate::specs::Numbers::number_list))]
 pub(crate) fn read_numbers<'a>(parser: &mut Parser<'a>) -> Result<Vec<u8>>
     ensures reads { Reads (owning (λ v. v.items) no_items) number_list result parser.old
@@ -236,7 +237,7 @@ pub(crate) fn read_numbers<'a>(parser: &mut Parser<'a>) -> Result<Vec<u8>>
     read_wide(parser)
 }
 
-/// Whether a group of integers is in front.
+/// Whether a group of integers is next.
 fn integers_next(parser: &Parser<'_>) -> bool
     ensures { result ≡ begins_integers parser.now.left }
 {
@@ -246,7 +247,7 @@ fn integers_next(parser: &Parser<'_>) -> bool
         || parser.group_is("i64")
 }
 
-/// Whether a group of numbers is in front.
+/// Whether a group of numbers is next.
 pub(crate) fn numbers_next(parser: &Parser<'_>) -> bool
     ensures { result ≡ begins_numbers parser.now.left }
 {

@@ -15,10 +15,10 @@ use wat_expr::Expression;
 use wat_instr::Instruction;
 use wat_tokens::{Parse, Parser, Result};
 
-/// A value, and an expression directly behind it.
+/// Parses a value, and the expression directly after the value.
 ///
-/// The value's type is a parameter, as in [`wat_tokens::enclosed`]: a body that holds a value of a
-/// large type over a call that may refuse is proved slowly.
+/// The value's type is a parameter, as in [`wat_tokens::enclosed`]: the proof of a body is slow if
+/// the body holds a value of a large type across a call that can refuse.
 fn read_before_items<'a, T: Parse<'a> + Drop>(
     parser: &mut Parser<'a>,
 ) -> Result<(T, Expression<'a>)>
@@ -32,9 +32,9 @@ fn read_before_items<'a, T: Parse<'a> + Drop>(
     Ok((value, items))
 }
 
-/// An instruction and items, to the end. The instruction is behind what the items unfold to, and
-/// its span behind theirs. Where there are no items, it is an expression of one instruction, which
-/// has no spans.
+/// Parses an instruction and items, up to the end of the group. In the expression the instruction
+/// comes after the instructions of the items, and its span after their spans. Without items, the
+/// expression has one instruction and no spans.
 #[tactic(auto, using(crate::proofs::Heads::never_bare), unfolding(crate::specs::Offset::head_last))]
 fn read_head_last<'a>(parser: &mut Parser<'a>) -> Result<Expression<'a>>
     ensures reads { ReadsAt turns_too (owning expression_view bare_expression) head_last result
@@ -50,7 +50,7 @@ fn read_head_last<'a>(parser: &mut Parser<'a>) -> Result<Expression<'a>>
     Ok(offset)
 }
 
-/// What is in the group of an offset: `offset` and an expression, or its abbreviation, an
+/// Parses the contents of an offset's group: `offset` and an expression, or the abbreviation, an
 /// instruction and items.
 #[tactic(auto, unfolding(crate::specs::Offset::offset_inside))]
 pub(crate) fn read_offset<'a>(parser: &mut Parser<'a>) -> Result<Expression<'a>>

@@ -40,7 +40,7 @@ pub enum ElemPayload<'a> {
     },
 }
 
-/// `( word Expression )` where the second token is the word, else a folded instruction.
+/// Parses `( word Expression )` if the second token is the word, otherwise a folded instruction.
 #[tactic(auto, unfolding(crate::specs::Item::written_or_folded))]
 pub(crate) fn read_written_or_folded<'a>(
     parser: &mut Parser<'a>,
@@ -60,7 +60,7 @@ pub(crate) fn read_written_or_folded<'a>(
     Ok(value)
 }
 
-/// `( item Expression )` where the second token is `item`, else a folded instruction.
+/// An item: `( item Expression )` if the second token is `item`, otherwise a folded instruction.
 struct Item;
 
 impl<'a> Spanned<'a, Expression<'a>> for Item {
@@ -80,7 +80,7 @@ impl<'a> Spanned<'a, Expression<'a>> for Item {
     }
 }
 
-/// Items, to the end.
+/// Parses items up to the end of the group.
 #[tactic(auto, using(crate::proofs::Lists::consumes), unfolding(crate::specs::Payload::item_list))]
 fn read_items<'a>(parser: &mut Parser<'a>) -> Result<Vec<Expression<'a>>>
     ensures reads { ReadsAt turns_too (owning (λ v. map expression_view v.items) no_items) item_list
@@ -90,7 +90,7 @@ fn read_items<'a>(parser: &mut Parser<'a>) -> Result<Vec<Expression<'a>>>
     all_spanned::<_, Item>(parser)
 }
 
-/// Indices, to the end.
+/// Parses indices up to the end of the group.
 #[tactic(auto, unfolding(crate::specs::Payload::index_list))]
 fn read_indices<'a>(parser: &mut Parser<'a>) -> Result<Vec<Index<'a>>>
     ensures reads { Reads (owning (λ v. map index_view v.items) no_items) index_list result
@@ -99,7 +99,7 @@ fn read_indices<'a>(parser: &mut Parser<'a>) -> Result<Vec<Index<'a>>>
     all_to_end::<Index>(parser)
 }
 
-/// The one instruction `ref.func` of an index.
+/// An expression of the single instruction `ref.func` of an index.
 fn ref_func_at<'a>(alloc: Global, index: Index<'a>) -> Result<Expression<'a>>
     ensures value { IfOk result (λ e. expression_view e ≡ ref_func_of (index_view index.entry)) }
     ensures spans { IfOk result (λ e. SpansAre false e) }
@@ -108,7 +108,7 @@ fn ref_func_at<'a>(alloc: Global, index: Index<'a>) -> Result<Expression<'a>>
     Expression::one(alloc, Instruction::Indexed(IndexedOp::ref_func, index))
 }
 
-/// An index, as `ref.func` of it.
+/// An index, as an expression of the single instruction `ref.func` of that index.
 struct RefFunc;
 
 impl<'a> Spanned<'a, Expression<'a>> for RefFunc {
@@ -129,7 +129,8 @@ impl<'a> Spanned<'a, Expression<'a>> for RefFunc {
     }
 }
 
-/// Indices, to the end, each as `ref.func` of it, as a payload of the type.
+/// Parses indices up to the end of the group, each as an expression `ref.func`, as a payload of the
+/// type.
 #[tactic(auto, using(crate::proofs::Lists::consumes), unfolding(crate::specs::RefFuncs::ref_funcs_of, crate::specs::RefFuncs::ref_funcs))]
 fn read_ref_funcs<'a>(parser: &mut Parser<'a>, ty: RefType<'a>) -> Result<ElemPayload<'a>>
     ensures reads { Reads (owning payload_view bare_payload) (ref_funcs_of (ref_view ty.entry))
@@ -140,7 +141,7 @@ fn read_ref_funcs<'a>(parser: &mut Parser<'a>, ty: RefType<'a>) -> Result<ElemPa
     Ok(ElemPayload::Exprs { ty, exprs })
 }
 
-/// Indices, to the end, as they are.
+/// Parses indices up to the end of the group, as a payload of indices.
 #[tactic(auto, unfolding(crate::specs::RefFuncs::plain_indices))]
 fn read_plain_indices<'a>(parser: &mut Parser<'a>) -> Result<ElemPayload<'a>>
     ensures reads { Reads (owning payload_view bare_payload) plain_indices result parser.old
@@ -163,7 +164,8 @@ pub fn is_funcref(ty: RefType<'_>) -> bool
     }
 }
 
-/// Indices, to the end, as a payload of the type.
+/// Parses indices up to the end of the group, as a payload of the type: of indices if the type is
+/// `funcref`, otherwise of expressions `ref.func`.
 #[tactic(auto, using(crate::proofs::RefFuncs::indices_are, crate::proofs::RefFuncs::ref_funcs_are))]
 fn read_indices_of<'a>(parser: &mut Parser<'a>, ty: RefType<'a>) -> Result<ElemPayload<'a>>
     ensures reads { Reads (owning payload_view bare_payload) (indices_of (ref_view ty.entry)) result
@@ -176,8 +178,9 @@ fn read_indices_of<'a>(parser: &mut Parser<'a>, ty: RefType<'a>) -> Result<ElemP
     read_ref_funcs(parser, ty)
 }
 
-/// Items where `(` is in front, else indices; as a payload of the type. An index is there as itself
-/// where the type is `funcref`, and else as an expression of the one instruction `ref.func`.
+/// Parses items if `(` is next, otherwise indices, as a payload of the type. An index stays an
+/// index if the type is `funcref`. Otherwise it becomes an expression of the single instruction
+/// `ref.func`.
 #[tactic(auto, unfolding(crate::specs::Payload::listed, crate::specs::RefFuncs::indices_of))]
 pub(crate) fn read_listed<'a>(parser: &mut Parser<'a>, ty: RefType<'a>) -> Result<ElemPayload<'a>>
     ensures reads { ReadsAt turns_too (owning payload_view bare_payload)
@@ -192,7 +195,7 @@ pub(crate) fn read_listed<'a>(parser: &mut Parser<'a>, ty: RefType<'a>) -> Resul
     read_indices_of(parser, ty)
 }
 
-/// A type, and items to the end.
+/// Parses a reference type, and items up to the end of the group.
 #[tactic(auto, unfolding(crate::specs::Payload::typed_elems))]
 fn read_typed_items<'a>(parser: &mut Parser<'a>) -> Result<ElemPayload<'a>>
     ensures reads { ReadsAt turns_too (owning payload_view bare_payload) typed_elems result
@@ -204,7 +207,7 @@ fn read_typed_items<'a>(parser: &mut Parser<'a>) -> Result<ElemPayload<'a>>
     Ok(ElemPayload::Exprs { ty, exprs })
 }
 
-/// `func` and indices, or a type and items.
+/// Parses `func` and indices, or a reference type and items.
 #[tactic(auto, unfolding(crate::specs::Payload::payload))]
 pub(crate) fn read_payload<'a>(parser: &mut Parser<'a>) -> Result<ElemPayload<'a>>
     ensures reads { ReadsAt turns_too (owning payload_view bare_payload) payload result parser.old
@@ -217,7 +220,7 @@ pub(crate) fn read_payload<'a>(parser: &mut Parser<'a>) -> Result<ElemPayload<'a
     read_typed_items(parser)
 }
 
-/// `func` and indices, a type and items, or indices alone.
+/// Parses `func` and indices, a reference type and items, or indices alone.
 #[tactic(auto, unfolding(crate::specs::Payload::payload_or_indices))]
 pub(crate) fn read_payload_or_indices<'a>(parser: &mut Parser<'a>) -> Result<ElemPayload<'a>>
     ensures reads { ReadsAt turns_too (owning payload_view bare_payload) payload_or_indices result

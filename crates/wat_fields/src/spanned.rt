@@ -1,7 +1,7 @@
-//! Values that are one behind the other, to the end of their group, and what is said of each one's
-//! spans.
+//! Parses values up to the end of their group, with a guarantee about the spans of each value.
 //!
-//! [`wat_tokens::repeat`] says nothing of spans: whether they are kept isn't told by the tokens.
+//! The contracts of [`wat_tokens::repeat`] don't describe spans: the tokens don't determine whether
+//! a value keeps its spans.
 
 ghost use Rattle.std.specs.Prelude.{◌≤◌, map, Bool, All, IfOk};
 ghost use Rattle.wat_tokens.specs.Cost.{Cost};
@@ -13,30 +13,30 @@ ghost use Rattle.wat_tokens.specs.Views.{ViewOf, owning, no_items};
 
 use wat_tokens::{Parser, Result};
 
-/// How values are read that are one behind the other, each as a `V`.
+/// How each value of a sequence is parsed, as a `V`.
 pub(crate) trait Spanned<'a, V> {
-    /// What contracts see of a value.
+    /// The type of a value's view in contracts.
     ghost View: { Type 0 };
 
-    /// What is seen of a value, and whether it owns heap memory.
+    /// The view of a value, and whether the value owns heap memory.
     ghost view: { ViewOf V View };
 
-    /// What may be counted while it is read.
+    /// The counts that can rise while a value is parsed.
     ghost cost: { Cost };
 
-    /// Which tokens spell a value, and how it is read.
+    /// The production: the tokens that spell a value, and how a value is read.
     ghost grammar: { Production View };
 
-    /// What is said of its spans, where the parser tracks them or doesn't.
+    /// The guarantee about a value's spans, by whether the parser tracks spans.
     ghost keeps: { Bool → V → Type 0 };
 
-    /// Takes the value that is in front, or refuses as [`wat_tokens::Parse::parse`] does.
+    /// Takes the next value, or refuses as [`wat_tokens::Parse::parse`] does.
     fn take(parser: &mut Parser<'a>) -> Result<V>
         ensures reads { ReadsAt cost view grammar result parser.old parser.new }
         ensures spans { IfOk result (λ v. keeps parser.old.tracks v) };
 }
 
-/// Values up to the end of the group, as a list.
+/// Parses values up to the end of the group, as a list.
 pub(crate) fn all_spanned<'a, V: Drop, S: Spanned<'a, V>>(parser: &mut Parser<'a>) -> Result<Vec<V>>
     requires { 1 ≤ S.grammar.least }
     ensures reads { Call S.cost (owning (λ v. map S.view.of v.items) no_items)

@@ -63,7 +63,8 @@ pub enum TableKind<'a> {
     },
 }
 
-/// What it holds, behind the type of its elements.
+/// Parses `shared` or nothing, `i32`, `i64` or nothing, a reference type, and `( elem` items or
+/// indices `)`.
 #[tactic(auto, unfolding(crate::specs::Table::inline_table))]
 fn read_inline<'a>(parser: &mut Parser<'a>) -> Result<TableKind<'a>>
     ensures reads { ReadsAt turns_too (owning table_kind_view bare_table_kind) inline_table result
@@ -86,7 +87,7 @@ fn read_inline<'a>(parser: &mut Parser<'a>) -> Result<TableKind<'a>>
     })
 }
 
-/// A type, and then an expression, where something is left.
+/// Parses a table type, and an expression if the group goes on.
 #[tactic(auto, unfolding(crate::specs::Table::normal_table))]
 fn read_normal<'a>(parser: &mut Parser<'a>) -> Result<TableKind<'a>>
     ensures reads { ReadsAt turns_too (owning table_kind_view bare_table_kind) normal_table result
@@ -103,7 +104,7 @@ fn read_normal<'a>(parser: &mut Parser<'a>) -> Result<TableKind<'a>>
     Ok(TableKind::Normal { ty, init_expr })
 }
 
-/// From where it is imported, and its type.
+/// Parses an inline import and a table type.
 #[tactic(auto, using(wat_links::specs::Laws::NoImport::no_import), unfolding(crate::specs::Table::imported_table))]
 fn read_imported<'a>(parser: &mut Parser<'a>) -> Result<TableKind<'a>>
     ensures reads { Reads (plain table_kind_view) imported_table result parser.old parser.new }
@@ -118,14 +119,14 @@ fn read_imported<'a>(parser: &mut Parser<'a>) -> Result<TableKind<'a>>
     Ok(TableKind::Import { import, ty })
 }
 
-/// Whether `shared`, `i32` or `i64` is in front.
+/// Whether the next token is `shared`, `i32` or `i64`.
 fn prefix_next(parser: &Parser<'_>) -> bool
     ensures { result ≡ begins_prefix parser.now.left }
 {
     parser.next_is("shared") || parser.next_is("i32") || parser.next_is("i64")
 }
 
-/// Whether a reference type is in front, or one of the three words and then a reference type.
+/// Whether a reference type is next, or one of `shared`, `i32` and `i64` and then a reference type.
 fn inline_next(parser: &Parser<'_>) -> bool
     ensures { result ≡ begins_inline_elems parser.now.left }
 {
@@ -135,14 +136,14 @@ fn inline_next(parser: &Parser<'_>) -> bool
     prefix_next(parser) && parser.peek2::<RefType>()
 }
 
-/// Whether one of the three words or an integer is in front.
+/// Whether the next token is `shared`, `i32`, `i64` or an integer.
 fn normal_next(parser: &Parser<'_>) -> bool
     ensures { result ≡ begins_normal parser.now.left }
 {
     prefix_next(parser) || parser.peek::<u64>()
 }
 
-/// How it is defined.
+/// Parses the definition of a table, after its head.
 #[tactic(auto, unfolding(crate::specs::Table::table_kind))]
 fn read_table_kind<'a>(parser: &mut Parser<'a>) -> Result<TableKind<'a>>
     ensures reads { ReadsAt turns_too (owning table_kind_view bare_table_kind) table_kind result
@@ -168,9 +169,9 @@ fn read_table_kind<'a>(parser: &mut Parser<'a>) -> Result<TableKind<'a>>
 /// - otherwise `( import` string string `)` and a table type.
 ///
 /// The errors, each at the next token: Range for a number that is too large or has a `-`; Operator
-/// if something else is next where an instruction's keyword is needed; the errors of
-/// [`Expression`]; Memory; and Unexpected for anything else, also at the `(` of a group that isn't
-/// an import of two strings.
+/// if an instruction's keyword is needed and another token is next; the errors of [`Expression`];
+/// Memory; and Unexpected for anything else, also at the `(` of a group that isn't an import of two
+/// strings.
 impl<'a> Parse<'a> for Table<'a> {
     ghost View = { TableFieldTy };
 

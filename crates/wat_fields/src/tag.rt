@@ -26,7 +26,7 @@ pub struct Tag<'a> {
     pub kind: TagKind<'a>,
 }
 
-/// The definition of a tag: an import, or nothing but its type.
+/// The definition of a tag: an import, or the type alone.
 #[derive(Debug, Drop)]
 pub enum TagKind<'a> {
     /// An inline import.
@@ -35,7 +35,7 @@ pub enum TagKind<'a> {
     Inline(),
 }
 
-/// How a tag is defined, that may have an import in line.
+/// The definition of a tag with or without an inline import.
 fn kind_of(import: Option<InlineImport<'_>>) -> TagKind<'_>
     ensures { tag_kind_view result ≡ option_view inline_import_view import.entry }
 {
@@ -48,7 +48,7 @@ fn kind_of(import: Option<InlineImport<'_>>) -> TagKind<'_>
 /// Parses `tag`, a [`FieldHead`], an inline import if `(`, `import`, two strings and `)` are next,
 /// and a [`TagType`].
 ///
-/// The errors: Unexpected at another token than `tag`; those of the parts.
+/// The errors: Unexpected if the next token isn't `tag`; the errors of the parts.
 impl<'a> Parse<'a> for Tag<'a> {
     ghost View = { TagTy };
 

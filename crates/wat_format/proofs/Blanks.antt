@@ -1,4 +1,4 @@
--- Spaces in front of a place of a text.
+-- Spaces before an offset of a text.
 use Rattle.std.proofs.Common.{◌≡◌, ℕ, ◌+◌, ◌<◌, ◌≤◌, List, [], ◌∷◌, ◌++◌, length, drop, get_or, refl, ap, sym, ◌∙◌, subst, arith, length-append, length-drop}
 use Rattle.std.specs.Prelude.{Bool, true, false, not, slice_range}
 use Rattle.std.specs.Str.{IsUtf8, IsCharBoundary}
@@ -22,7 +22,7 @@ spaces_sound (b ∷ t) =
     (λ e. let (x, s, all, none_there) = spaces_sound t in (b ∷ x, ap (λ l. b ∷ l) s, (e, all), none_there))
     (λ e. ([], refl, tt, rw e))
 
--- the blanks between two places are spaces, and no more stand there
+-- the blanks between two offsets are spaces, and no space follows
 pub blanks_found : (s : List ℕ) (end at : ℕ) → end ≤ at → at ≤ length s → drop at s ≡ behind_spaces (drop end s) → AllSpaces (slice_range s end at) × NoSpace (drop at s)
 blanks_found s end at order within e =
     let (x, is, all, none_there) = spaces_sound (drop end s) in
@@ -38,13 +38,13 @@ no_space_at s at lt h =
     let here : NoSpace (get_or s at 0 ∷ drop (at + 1) s) = subst NoSpace (at_front at s lt) h in
     not_false (is_space (get_or s at 0)) here
 
--- the blanks of a text may stand before the piece behind them
+-- the blanks of a text can be before the piece that follows them
 pub own_blanks : (s : List ℕ) (end at : ℕ) (last : Shape) → end ≤ at → at < length s → AllSpaces (slice_range s end at) → Follows last (drop end s) → Separates last (slice_range s end at) (get_or s at 0) (slice_range s end at)
 own_blanks s end at last order lt all follows =
     let whole : drop end s ≡ slice_range s end at ++ (get_or s at 0 ∷ drop (at + 1) s) = slice_rest s end at order ∙ ap (λ l. slice_range s end at ++ l) (at_front at s lt) in
     (all, follows_less last (slice_range s end at) (drop (at + 1) s) (get_or s at 0) (subst (Follows last) whole follows), λ e. refl)
 
--- behind spaces a character ends where one ended before them
+-- a character boundary before spaces gives a character boundary after them
 spaces_boundary : (s : List ℕ) (end : ℕ) (x rest : List ℕ) → IsUtf8 s → IsCharBoundary s end → AllSpaces x → drop end s ≡ x ++ rest → IsCharBoundary s (end + length x)
 spaces_boundary s end [] rest u edge all e = let same : end ≡ end + 0 = omega arith in subst (IsCharBoundary s) same edge
 spaces_boundary s end (b ∷ x) rest u edge all e =

@@ -1,4 +1,4 @@
--- Texts that are read the same are cut the same.
+-- Texts with the same parts have cuts with the same tokens.
 use Rattle.std.proofs.Common.{◌≡◌, ℕ, List, ap, sym, ◌∙◌, subst, length}
 use Rattle.wat_lexer.specs.Cut.{Closed, IsCut}
 use Rattle.wat_lexer.specs.Token.{Placed, tokens_of}

@@ -1,4 +1,4 @@
--- What the scans find at a place of a text.
+-- The results of the scans at an offset of a text.
 use Rattle.std.specs.Str.{IsUtf8, IsCharBoundary}
 use Rattle.std.proofs.lemmas.Str.{IsCharBoundary-after_ascii}
 use Rattle.std.proofs.lemmas.List.{take-append-drop}
@@ -17,7 +17,7 @@ use Rattle.wat_lexer.specs.Laws.Strings.{string_complete}
 use Rattle.wat_format.specs.Shapes.{IsOfShape, Follows, IsEdge}
 use Rattle.wat_format.specs.declared.piece.Shape.TheVariants as of
 
--- the byte at i, and what follows it
+-- the byte at i, and the bytes after it
 pub at_front : (i : ℕ) (s : List ℕ) → i < length s → drop i s ≡ get_or s i 0 ∷ drop (i + 1) s
 at_front i s h = rw (add-one, drop-cons s i 0)
 
@@ -123,7 +123,7 @@ edge_boundary s at end u order within (inr h) = (within, λ lt high. absurd (ome
 pub space_boundary : (s : List ℕ) (at : ℕ) → IsUtf8 s → at < length s → is_space (get_or s at 0) ≡ true → IsCharBoundary s (at + 1)
 space_boundary s at u within h = IsCharBoundary-after_ascii s at u within (space_ascii (get_or s at 0) h)
 
--- the first byte of what is between two places
+-- the first byte between two offsets
 pub slice_front : (s : List ℕ) (at end : ℕ) → at < end → end ≤ length s → slice_range s at end ≡ get_or s at 0 ∷ slice_range s (at + 1) end
 slice_front s at end order within =
     let n : end - at ≡ suc (end - (at + 1)) = omega arith in rw (at_front at s (omega arith), n) refl

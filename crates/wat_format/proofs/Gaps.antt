@@ -39,7 +39,7 @@ pub gap_separates : (s : Shape) (blanks : List ℕ) (lines spaces b : ℕ) (dire
 gap_separates s blanks lines spaces b directly d h flag =
     (gap_spaces lines spaces, gap_follows s lines spaces b h, λ e. ap (λ v. v && is_opening s) (gap_none lines spaces) ∙ flag e ∙ ap (λ v. v && is_opening s) (d ∙ sym (none_eq blanks)))
 
--- where a byte may follow, a text that begins with it may
+-- if a byte can follow, a text that begins with that byte can follow
 pub follows_more : (s : Shape) (x y : List ℕ) (b : ℕ) → Follows s (x ++ b ∷ []) → Follows s (x ++ b ∷ y)
 follows_more s [] y b h = h
 follows_more s (_ ∷ _) y b h = h

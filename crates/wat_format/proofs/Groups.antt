@@ -1,4 +1,4 @@
--- Groups that are open behind tokens.
+-- Groups that are open after tokens.
 use Rattle.std.proofs.Common.{◌≡◌, ℕ, zero, suc, ◌+◌, ◌-◌, ◌<◌, List, [], ◌∷◌, ◌++◌, take, refl, ap, sym, ◌∙◌, subst, arith}
 use Rattle.std.specs.Prelude.{Bool, None}
 use Rattle.std.proofs.lemmas.List.{take-append-drop}
@@ -12,7 +12,7 @@ use Rattle.wat_format.specs.Shapes.{part_of, groups_behind}
 use Rattle.wat_format.specs.declared.piece.Shape.{Shape}
 use Rattle.wat_format.specs.declared.piece.Shape.TheVariants as of
 
--- how many groups are open behind tokens in front of which so many are
+-- the number of open groups after tokens, if `depth` groups are open before the tokens
 abbrev pub open_behind : ℕ → List Tok → ℕ
 open_behind depth [] = depth
 open_behind depth (t ∷ ts) = open_behind (deeper t depth) ts
@@ -21,7 +21,7 @@ open_append : (depth : ℕ) (ts us : List Tok) → open_behind depth (ts ++ us) 
 open_append depth [] us = refl
 open_append depth (t ∷ ts) us = open_append (deeper t depth) ts us
 
--- of the groups around a group that isn't closed each is open
+-- each group around an unclosed group is still open
 still_open : (ts : List Tok) (depth around : ℕ) → behind_group depth ts ≡ None → around < open_behind (depth + 1 + around) ts
 unfolding behind_group
 still_open [] depth around h = omega arith
@@ -40,7 +40,7 @@ still_open (Integer n ∷ ts) depth around h = still_open ts depth around h
 still_open (String n ∷ ts) depth around h = still_open ts depth around h
 still_open (Reserved n ∷ ts) depth around h = still_open ts depth around h
 
--- where no group is open at the end, each that begins with an annotation is closed
+-- if no group is open at the end, each group that begins with an annotation is closed
 pub all_closed : (ts : List Tok) → open_behind 0 ts ≡ 0 → Closed ts
 all_closed ts e i (n, rest, front, none_there) =
     let before = open_behind 0 (take i ts) in

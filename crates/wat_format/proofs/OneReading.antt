@@ -1,4 +1,4 @@
--- A text is read in one way.
+-- A text has at most one reading.
 use Rattle.std.proofs.Common.{◌≡◌, ℕ, ◌-◌, List, [], ◌∷◌, ◌++◌, length, take, refl, ap, sym, ◌∙◌, arith, length-append}
 use Rattle.std.specs.Prelude.{Bool, true, false, not}
 use Rattle.std.proofs.Math.Seq.{take-append_seam}
@@ -20,12 +20,12 @@ abbrev pub space_first : List ℕ → Bool
 space_first [] = false
 space_first (b ∷ _) = is_space b
 
--- what is read of a text whose blank ends at the rest, by whether that is a space
+-- the parts of a text whose first blank ends at the rest, by whether that blank is a space
 abbrev pub ReadBlank : Bool → List ℕ → List ℕ → List Part → Type 0
 ReadBlank true s rest ps = HasParts false rest ps
 ReadBlank false s rest ps = (x : List ℕ) × (us : List Part) × (s ≡ x ++ rest) × (ps ≡ a_comment x ∷ us) × HasParts false rest us
 
--- what is read of a text, by what is in front
+-- the parts of a text, by its beginning
 abbrev pub ReadBy : List ℕ → Beginning → List Part → Type 0
 ReadBy s Nothing ps = ps ≡ []
 ReadBy s (BlankTo rest) ps = ReadBlank (space_first s) s rest ps
@@ -63,7 +63,7 @@ one_reading (token w text x rest t ps e k r) j =
     let (y, us, f, is, q) = rw (token_front w text x rest t e k) at (read_front j) in
     joined (λ l. a_token l t) x y ps us _ (same_front text x y rest e f) (one_reading r q) is
 
--- a text that has a cut is read
+-- a text that has a cut has parts
 blank_reads : (w : Bool) (text x rest : List ℕ) (ps : List Part) → text ≡ x ++ rest → Blank x rest → HasParts false rest ps → (qs : List Part) × HasParts w text qs
 blank_reads w text x rest ps e (cut.space b r h) k = (ps, rw e (space w b r ps h k))
 blank_reads w text x rest ps e (cut.line y r all ends) k = (a_comment x ∷ ps, comment w text x r ps e (cut.line y r all ends, refl) k)

@@ -1,4 +1,4 @@
--- Pieces and gaps in front of a text that is read.
+-- Pieces and gaps before a text that is read.
 use Rattle.std.proofs.Common.{◌≡◌, ℕ, ◌-◌, ◌<◌, List, [], ◌∷◌, ◌++◌, length, refl, ap, sym, subst, inl, inr}
 use Rattle.std.specs.Prelude.{Bool, true, false, ◌==◌, ◌&&◌, ◌⊎◌}
 use Rattle.std.proofs.lemmas.Bool.{eqb-true}
@@ -65,7 +65,7 @@ bool_cases : (A : Type 0) (b : Bool) → (b ≡ true → A) → (b ≡ false →
 bool_cases A true p q = p refl
 bool_cases A false p q = q refl
 
--- but for `@`, a `(` directly before changes nothing
+-- a `(` directly before a piece changes nothing, unless the piece begins with `@`
 pub part_flag : (s : Shape) (b : ℕ) (y : List ℕ) (f g : Bool) → (b ≡ 64 → f ≡ g) → part_of f s (b ∷ y) ≡ part_of g s (b ∷ y)
 part_flag of.Line b y f g h = refl
 part_flag of.Block b y f g h = refl

@@ -1,4 +1,4 @@
--- What is known of a text and of the answer while it is written.
+-- Facts about a text and the result while the result is written.
 use Rattle.std.proofs.Common.{◌≡◌, ℕ, ◌+◌, ◌<◌, ◌≤◌, List, [], ◌∷◌, ◌++◌, length, drop, refl, ap, sym, ◌∙◌, subst, arith, append_assoc, append-nil, length-drop}
 use Rattle.std.proofs.Common.{get_or}
 use Rattle.std.specs.Prelude.{Bool, true, false, ◌&&◌, slice_range}
@@ -19,8 +19,8 @@ use Rattle.wat_format.proofs.Gaps.{follows_more, line_follows}
 use Rattle.wat_format.proofs.Groups.{open_behind, one_piece_more, all_closed}
 use Rattle.wat_format.proofs.Reading.{reads_piece, fails_piece, part_flag, reads_gap, reads_cuts, none_false}
 
--- The parts so far: what is read of the rest reads behind them in the text, and what may stand
--- behind the last piece reads behind them in the answer. So many groups are open behind them.
+-- The parts so far. In the text, the parts of the rest come after them; in the result, any text that can
+-- be after the last piece is read after them. `depth` groups are open after them.
 pub record SoFar (text : List ℕ) (behind : Bool) (rest out : List ℕ) (last : Shape) (depth : ℕ) : Type 0 where
   pub parts : List Part
   pub read : (us : List Part) → HasParts behind rest us → HasParts false text (parts ++ us)
@@ -83,7 +83,7 @@ wrong_here {text} {behind = behind} at e so (within, h) =
     let o = offset_of e.span in
     (drop o text, so.fails e.fault (drop o text) (cut.at_once behind (drop at text) e.fault (drop o text) h), omega (arith, length-drop o text))
 
--- the piece between two places was written behind blanks
+-- the piece between two offsets was written after blanks
 pub piece_written : {text out answer : List ℕ} {last : Shape} {depth : ℕ} (at end : ℕ) (s : Shape) (blanks x : List ℕ) → at < end → end ≤ length text → IsOfShape s (slice_range text at end) → Follows s (drop end text) → Separates last blanks (get_or text at 0) x → answer ≡ (out ++ x) ++ slice_range text at end → SoFar text (no_bytes blanks && is_opening last) (drop at text) out last depth → SoFar text (is_opening s) (drop end text) answer s (groups_behind s depth)
 piece_written {text} {out} {answer} {last} {depth} at end s blanks x order within stands ends (spaces, fits, flag) e so =
     let front = slice_front text at end order within in

@@ -1,20 +1,20 @@
--- What a text holds besides spaces.
+-- The parts of a text besides spaces.
 use Rattle.std.specs.Prelude.{◌≡◌, ℕ, ◌++◌, Bool, true, false, not, List, [], ◌∷◌}
 use Rattle.wat_lexer.specs.Bytes.{is_space}
 use Rattle.wat_lexer.specs.Cut.{Blank, Token, Begins}
 use Rattle.wat_lexer.specs.Token.{Tok, is_open}
 
--- a token, by its bytes and by what they spell, or a comment, by its bytes
+-- a token, by its bytes and the token that they spell, or a comment, by its bytes
 pub data Part : Type 0 where
   a_token : List ℕ → Tok → Part
   a_comment : List ℕ → Part
 
--- a blank that is no space
+-- a blank that isn't a space
 abbrev pub Comment : List ℕ → List ℕ → Type 0
 Comment x rest = Blank x rest × Begins (λ b. not (is_space b)) x
 
--- The text is these parts, with spaces before, between and behind them; the flag says that a `(` is
--- directly before it.
+-- The text is these parts, with spaces before, between and after them. The flag is whether a `(` is
+-- directly before the text.
 pub data HasParts : Bool → List ℕ → List Part → Type 0 where
   done : (behind : Bool) → HasParts behind [] []
   space : (behind : Bool) (b : ℕ) (rest : List ℕ) (ps : List Part) → is_space b ≡ true
@@ -25,8 +25,8 @@ pub data HasParts : Bool → List ℕ → List Part → Type 0 where
       → Token behind x rest t → HasParts (is_open t) rest ps
       → HasParts behind text (a_token x t ∷ ps)
 
--- Both texts are the same tokens and comments, byte for byte and in the same order: they differ in
--- spaces alone.
+-- Both texts have the same tokens and comments, byte for byte and in the same order: the texts
+-- differ only in spaces.
 abbrev pub SameButSpaces : List ℕ → List ℕ → Type 0
 SameButSpaces text answer = (ps : List Part) × HasParts false text ps × HasParts false answer ps
 

@@ -26,7 +26,7 @@ IsOfShape of.Open x = x ≡ 40 ∷ []
 IsOfShape of.Close x = x ≡ 41 ∷ []
 IsOfShape of.Word x = (0 < length x) × Run x
 
--- the part that they are; the flag says that a `(` is directly before them
+-- the bytes as a part; the flag is whether a `(` is directly before the bytes
 abbrev pub part_of : Bool → Shape → List ℕ → Part
 part_of behind of.Line x = a_comment x
 part_of behind of.Block x = a_comment x
@@ -34,7 +34,7 @@ part_of behind of.Open x = a_token x LParen
 part_of behind of.Close x = a_token x RParen
 part_of behind of.Word x = a_token x (class behind x)
 
--- a byte may be directly behind them
+-- a byte can be directly after a piece of the shape
 abbrev pub follows : Shape → ℕ → Bool
 follows of.Line b = is_line_end b
 follows of.Block b = true
@@ -42,28 +42,28 @@ follows of.Open b = not (b == 59)
 follows of.Close b = true
 follows of.Word b = in_no_run b
 
--- a text may
+-- a text can be directly after a piece of the shape
 abbrev pub Follows : Shape → List ℕ → Type 0
 Follows s rest = Begins (follows s) rest
 
--- a character ends there, since an ASCII byte is before it or behind it
+-- a character ends at the offset, since the byte before or after the offset is ASCII
 abbrev pub IsEdge : List ℕ → ℕ → Type 0
 IsEdge text i = (slice_index text (i - 1) < 128) ⊎ (i < length text → slice_index text i < 128)
 
--- nothing stands at the place, for this reason
+-- the text has no piece at the offset, for the reason that the error gives
 abbrev pub WrongAt : List ℕ → ℕ → Error → Type 0
 WrongAt text at e =
     (offset_of e.span ≤ length text) × Broken (drop at text) e.fault (drop (offset_of e.span) text)
 
--- line breaks, and spaces behind them
+-- line ends, and then spaces
 abbrev pub gap_bytes : ℕ → ℕ → List ℕ
 gap_bytes lines spaces = replicate lines 10 ++ replicate spaces 32
 
--- there are neither
+-- no line ends and no spaces
 abbrev pub no_gap : ℕ → ℕ → Bool
 no_gap lines spaces = (lines == 0) && (spaces == 0)
 
--- the first byte of these and of a byte behind them
+-- the first byte of a gap and the byte after the gap
 abbrev pub gap_first : ℕ → ℕ → ℕ → ℕ
 gap_first lines spaces b = if nat_lt 0 lines then 10 else (if nat_lt 0 spaces then 32 else b)
 
@@ -74,14 +74,14 @@ no_bytes (_ ∷ _) = false
 abbrev pub AllSpaces : List ℕ → Type 0
 AllSpaces x = AllByRecursion (λ b. is_space b ≡ true) x
 
--- Blanks that may be between a piece and the byte that begins the next, where the text has other
--- blanks: a `@` stays directly behind a `(`, or away from it.
+-- Blanks that can replace the blanks of the text between a piece and the first byte of the next: a
+-- `@` stays directly after a `(`, or away from it.
 abbrev pub Separates : Shape → List ℕ → ℕ → List ℕ → Type 0
 Separates last blanks first x =
     AllSpaces x × Follows last (x ++ first ∷ [])
     × (first ≡ 64 → no_bytes x && is_opening last ≡ no_bytes blanks && is_opening last)
 
--- how many groups are open behind a piece
+-- the number of open groups after a piece
 abbrev pub groups_behind : Shape → ℕ → ℕ
 groups_behind of.Open depth = depth + 1
 groups_behind of.Close depth = depth - 1

@@ -1,7 +1,8 @@
 //! Formats a text.
 //!
-//! It reads tokens and comments one by one and writes them with other white space between them. It
-//! keeps only the open groups in memory.
+//! The formatter reads tokens and comments one by one, and writes them with other white space
+//! between them. Besides the result it keeps only the open groups in memory. If a group is open at
+//! the end, the whole text is cut too.
 
 ghost use Rattle.std.specs.Prelude.{◌≡◌, ◌+◌, ◌≤◌, ◌<◌, IfOk, IfErr, ℕ, List, length, string_bytes};
 ghost use Rattle.std.specs.Prelude.{slice_range};
@@ -21,15 +22,15 @@ use wat_lexer::cut::cut;
 use wat_lexer::fault::Error;
 use wat_lexer::scan::spaces_end;
 
-/// What was written, and how many groups are open at its end.
+/// The written text, and the number of open groups at its end.
 #[derive(Drop)]
 struct Written {
     text: String,
     groups: usize,
 }
 
-/// Writes the text's pieces with other blanks between them. Where no group is open at its end, each
-/// annotation's group is closed.
+/// Writes the text's pieces with other blanks between them. If no group is open at the end, each
+/// annotation's group is closed, so the text has a cut.
 fn write(alloc: Global, text: &str) -> Result<Written, Error>
     ensures same { IfOk result (λ w. SameButSpaces text.now (string_bytes w.text)) }
     ensures closed { IfOk result (λ w. w.groups ≡ 0 → (ts : List Placed) × IsCut text.now ts) }
@@ -70,15 +71,15 @@ fn write(alloc: Global, text: &str) -> Result<Written, Error>
 /// breaks stay where the author put them. Lines are indented by the number of open groups and open
 /// flat blocks. A result that isn't empty ends in one LF.
 ///
-/// Errors are those of `cut`, with the same offsets: LexChar, LexString, LexComment, LexAnnotation
-/// and Memory. It reads the text once, or twice if a group is open at the end. WebAssembly Core
+/// Returns the errors of `cut`, at the same offsets: LexChar, LexString, LexComment, LexAnnotation
+/// and Memory. The text is read once, or twice if a group is open at the end. WebAssembly Core
 /// Specification, Text Format, Lexical Format, White Space, Comments and Annotations.
 pub fn format(alloc: Global, text: &str) -> Result<String, Error>
     ensures same { IfOk result (λ a. SameButSpaces text.now (string_bytes a)) }
-    // Both texts are cut, into the same tokens.
+    // Both texts have cuts, with the same tokens.
     ensures tokens { IfOk result (λ a. (ts : List Placed) × (us : List Placed) × IsCut text.now ts
         × IsCut (string_bytes a) us × (tokens_of us ≡ tokens_of ts)) }
-    // The text has no cut, and the fault is its first from the left.
+    // If the fault isn't Memory, the text has no cut, and the fault is the first from the left.
     ensures refused { IfErr result (λ e. IfFault e (FirstFault text.now e.fault (offset_of e.span)
         × ((ts : List Placed) → IsCut text.now ts → ⊥))) }
 {

@@ -7,7 +7,7 @@ ghost use Rattle.wat_format.specs.Shapes.{gap_first, Separates};
 use crate::piece::Shape;
 use std::alloc::AllocError;
 
-/// Blanks that are made: ends of lines, LF each, and spaces behind them.
+/// Blanks to write: line ends, LF each, and then spaces.
 #[derive(Clone, Copy, Debug)]
 pub(crate) struct Gap {
     pub lines: usize,
@@ -21,8 +21,8 @@ fn opens(shape: Shape) -> bool
     matches!(shape, Shape::Open)
 }
 
-/// Whether a byte may be directly behind a piece. What is refused is a byte that may be part of a
-/// word, or of another piece.
+/// Whether a byte can be directly after a piece. A byte that could extend the piece, or make it
+/// another piece, is refused.
 fn may_follow(last: Shape, first: u8) -> bool
     ensures { result ≡ true → follows last first ≡ true }
 {
@@ -34,7 +34,7 @@ fn may_follow(last: Shape, first: u8) -> bool
     }
 }
 
-/// The first byte of a gap and what is behind it.
+/// The first byte of a gap and the byte after the gap.
 fn first_byte(gap: Gap, first: u8) -> u8
     ensures { result ≡ gap_first gap.lines gap.spaces first }
 {
@@ -47,8 +47,8 @@ fn first_byte(gap: Gap, first: u8) -> u8
     }
 }
 
-/// Whether a gap may be between a piece and the byte that begins the next; `directly` says that
-/// nothing is between them in the text. A `@` stays directly behind a `(`, or away from it.
+/// Whether a gap can be between a piece and the first byte of the next piece. `directly` is whether
+/// the text has nothing between the two. A `@` stays directly after a `(`, or away from it.
 fn fits(gap: Gap, last: Shape, directly: bool, first: u8) -> bool
     ensures follows { result ≡ true → follows last (gap_first gap.lines gap.spaces first) ≡ true }
     ensures flag { result ≡ true → first ≡ 64 → no_gap gap.lines gap.spaces && is_opening last
@@ -87,8 +87,8 @@ fn put_gap(out: &mut String, gap: Gap) -> Result<(), AllocError>
     put_spaces(out, gap.spaces)
 }
 
-/// Writes the gap that is wanted between a piece and the byte that begins the next. The blanks that
-/// are there in the text are written where none is wanted or it can't be.
+/// Writes the wanted gap between a piece and the first byte of the next piece. Writes the blanks of
+/// the text if no gap is wanted, or if the wanted gap doesn't fit.
 pub(crate) fn put_blanks(
     out: &mut String,
     wanted: Option<Gap>,

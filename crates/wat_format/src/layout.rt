@@ -1,7 +1,7 @@
-//! Which blanks are wanted between the pieces of a text. Lines stay as they are broken.
+//! The wanted blanks between the pieces of a text. Existing line breaks stay.
 //!
-//! Nothing is promised here but the number of open groups: whatever blanks are wanted, those that
-//! are written keep the pieces apart.
+//! The contracts here describe only the number of open groups. For any wanted blanks, the written
+//! blanks keep the pieces apart.
 
 ghost use Rattle.std.specs.Prelude.{◌≡◌, ◌+◌, ◌-◌, ◌≤◌, ◌<◌, length, vec_len, OnOk};
 ghost use Rattle.wat_format.specs.Shapes.{groups_behind};
@@ -11,27 +11,27 @@ use crate::piece::{Piece, Shape};
 use std::alloc::{AllocError, Global};
 use wat_lexer::scan::run_end;
 
-/// How many steps of two spaces a line is indented at most.
+/// The maximal indentation of a line, in steps of two spaces.
 const MOST_STEPS: usize = 50;
 
-/// What is known of the text up to the end of a piece.
+/// The state of the layout at the end of a piece.
 #[derive(Drop)]
 pub(crate) struct Layout {
-    /// How many flat blocks are open in each group around the innermost, the outermost first.
+    /// The number of open flat blocks in each group around the innermost group, outermost first.
     around: Vec<usize>,
-    /// How many flat blocks are open in the innermost group.
+    /// The number of open flat blocks in the innermost group.
     flat: usize,
-    /// How many groups and flat blocks are open.
+    /// The number of open groups and flat blocks.
     steps: usize,
-    /// How many groups were open at least since the line began.
+    /// The least number of open groups since the line began.
     least: usize,
     /// Whether the last token was `(`.
     opened: bool,
-    /// What the last piece was.
+    /// The kind of the last piece.
     last: Option<Shape>,
 }
 
-/// What a word does to flat blocks.
+/// The effect of a word on flat blocks.
 #[derive(Clone, Copy)]
 enum Flat {
     Begins,
@@ -40,7 +40,7 @@ enum Flat {
     Nothing,
 }
 
-/// What the word does, where it isn't directly behind a `(`.
+/// The effect of a word that isn't directly after a `(`.
 fn flat_of(word: &[u8]) -> Flat {
     match word {
         b"block" | b"loop" | b"if" | b"try" | b"try_table" => Flat::Begins,
@@ -50,7 +50,7 @@ fn flat_of(word: &[u8]) -> Flat {
     }
 }
 
-/// How many lines end in blanks. CR LF is one end of a line.
+/// The number of line ends in blanks. CR LF is one line end.
 fn line_ends(blanks: &[u8]) -> usize {
     let mut ends: usize = 0;
     let mut returned = false;
@@ -63,7 +63,7 @@ fn line_ends(blanks: &[u8]) -> usize {
     ends
 }
 
-/// Where the spaces and tabs end.
+/// The offset after the spaces and tabs.
 fn tabs_end(text: &[u8], from: usize) -> usize
     requires { from ≤ length text.now }
     ensures within { (from ≤ result) × (result ≤ length text.now) }
@@ -75,7 +75,7 @@ fn tabs_end(text: &[u8], from: usize) -> usize
     i
 }
 
-/// Whether nothing but blanks stands on the line from a place on.
+/// Whether the line has only blanks from an offset on.
 fn ends_line(text: &[u8], from: usize) -> bool
     requires { from ≤ length text.now }
 {
@@ -83,7 +83,7 @@ fn ends_line(text: &[u8], from: usize) -> bool
     end == text.len() || matches!(text[end], b'\n' | b'\r')
 }
 
-/// How many words `end` stand one behind another from a place on, with their labels, on one line.
+/// The number of consecutive words `end`, with their labels, on one line from an offset on.
 fn ends_in_front(text: &[u8], at: usize) -> usize
     requires { at ≤ length text.now }
 {
@@ -101,7 +101,7 @@ fn ends_in_front(text: &[u8], at: usize) -> usize
 }
 
 impl Layout {
-    /// At the beginning of a text.
+    /// The state at the beginning of a text.
     pub fn new(alloc: Global) -> Layout
         ensures { vec_len result.around ≡ 0 }
     {
@@ -115,15 +115,15 @@ impl Layout {
         }
     }
 
-    /// How many groups are open.
+    /// The number of open groups.
     pub fn groups(&self) -> usize
         ensures { result ≡ vec_len self.now.around }
     {
         self.around.len()
     }
 
-    /// How many groups and flat blocks are open behind the `)` with which the line at a place
-    /// begins.
+    /// The number of open groups and flat blocks after the `)` tokens at the beginning of the line
+    /// at an offset.
     fn steps_behind(&self, text: &[u8], at: usize) -> usize
         requires { at ≤ length text.now }
     {
@@ -148,7 +148,7 @@ impl Layout {
         steps
     }
 
-    /// How many flat blocks the line at a place steps back by the words with which it begins.
+    /// The number of flat blocks that the line at an offset steps back because of its first words.
     fn steps_back(&self, text: &[u8], at: usize, end: usize) -> usize
         requires order { at ≤ end }
         requires within { end ≤ length text.now }
@@ -160,7 +160,7 @@ impl Layout {
         }
     }
 
-    /// How many steps the line is indented that begins with a piece.
+    /// The indentation, in steps, of a line that begins with a piece.
     fn indent(&self, text: &[u8], at: usize, piece: Piece) -> usize
         requires order { at ≤ piece.end }
         requires within { piece.end ≤ length text.now }
@@ -175,15 +175,15 @@ impl Layout {
         }
     }
 
-    /// How many ends of lines stay of the blanks before a piece: one empty line at most, and none
-    /// where a group begins or ends.
+    /// The number of line ends that stay of the blanks before a piece: at most one empty line, and
+    /// no empty line where a group begins or ends.
     fn lines(&self, blanks: &[u8], shape: Shape) -> usize {
         let begins = self.around.len() > self.least;
         let ends = matches!(shape, Shape::Close);
         line_ends(blanks).min(if begins || ends { 1 } else { 2 })
     }
 
-    /// How many spaces are wanted before a piece that stands behind another on a line.
+    /// The number of wanted spaces before a piece that follows another piece on the same line.
     fn spaces(&self, first: u8, blanks: &[u8], shape: Shape) -> usize {
         let opened = matches!(self.last, Some(Shape::Open));
         let away = first == b'@' && blanks.len() > 0;
@@ -194,7 +194,7 @@ impl Layout {
         }
     }
 
-    /// The gap before a piece behind blanks; none where the blanks stay as they are.
+    /// The gap before a piece, in place of the blanks; None if the blanks stay as they are.
     pub fn gap(&mut self, text: &[u8], blanks: &[u8], at: usize, piece: Piece) -> Option<Gap>
         requires order { at < piece.end }
         requires within { piece.end ≤ length text.now }
@@ -220,7 +220,7 @@ impl Layout {
         Some(Gap { lines: 0, spaces })
     }
 
-    /// Passes a piece.
+    /// Updates the state for a piece.
     pub fn pass(&mut self, text: &[u8], at: usize, piece: Piece) -> Result<(), AllocError>
         requires order { at ≤ piece.end }
         requires within { piece.end ≤ length text.now }
@@ -242,7 +242,7 @@ impl Layout {
         Ok(())
     }
 
-    /// Passes a `(`.
+    /// Updates the state for a `(`.
     fn open(&mut self) -> Result<(), AllocError>
         ensures { OnOk result (vec_len self.new.around ≡ vec_len self.old.around + 1) }
     {
@@ -252,7 +252,7 @@ impl Layout {
         Ok(())
     }
 
-    /// Passes a `)`.
+    /// Updates the state for a `)`.
     fn close(&mut self)
         ensures { vec_len self.new.around ≡ vec_len self.old.around - 1 }
     {
@@ -263,7 +263,7 @@ impl Layout {
         }
     }
 
-    /// Passes a word that isn't directly behind a `(`.
+    /// Updates the state for a word that isn't directly after a `(`.
     fn pass_word(&mut self, word: &[u8])
         ensures { vec_len self.new.around ≡ vec_len self.old.around }
     {

@@ -1,5 +1,5 @@
-//! The piece of a text that stands at a place: a token or a comment (Text Format, Lexical Format,
-//! "Tokens", "Comments").
+//! The piece of a text at an offset: a token or a comment (Text Format, Lexical Format, "Tokens",
+//! "Comments").
 
 ghost use Rattle.std.specs.Prelude.{◌≡◌, ◌+◌, ◌-◌, ◌≤◌, ◌<◌, ◌==◌, ◌&&◌, false, nat_lt};
 ghost use Rattle.std.specs.Prelude.{IfOk, IfErr, length, drop, slice_range, slice_index};
@@ -9,12 +9,12 @@ ghost use Rattle.wat_format.specs.Shapes.{IsOfShape, Follows, IsEdge, WrongAt};
 use wat_lexer::fault::{Error, Fault, fault_at};
 use wat_lexer::scan::{comment_end, line_end, run_end};
 
-/// What a piece is.
+/// The kind of a piece.
 #[derive(Clone, Copy, Debug)]
 pub(crate) enum Shape {
     /// A comment up to the end of the line.
     Line,
-    /// A comment in `(;` and `;)`.
+    /// A comment between `(;` and `;)`.
     Block,
     /// `(`
     Open,
@@ -24,21 +24,21 @@ pub(crate) enum Shape {
     Word,
 }
 
-/// A piece, and where it ends.
+/// A piece, and the byte offset of its end.
 #[derive(Clone, Copy, Debug)]
 pub(crate) struct Piece {
     pub shape: Shape,
     pub end: usize,
 }
 
-/// Whether a `;` is at a place.
+/// Whether the byte at an offset is `;`.
 fn is_mark(text: &[u8], at: usize) -> bool
     ensures { result ≡ (nat_lt at (length text.now) && (slice_index text.now at == 59)) }
 {
     at < text.len() && text[at] == b';'
 }
 
-/// The block comment at a place.
+/// Returns the block comment at an offset.
 fn block_comment(text: &[u8], at: usize) -> Result<Piece, Error>
     requires inside { at + 1 < length text.now }
     requires first { slice_index text.now at ≡ 40 }
@@ -58,7 +58,7 @@ fn block_comment(text: &[u8], at: usize) -> Result<Piece, Error>
     }
 }
 
-/// The line comment at a place.
+/// Returns the line comment at an offset.
 fn line_comment(text: &[u8], at: usize) -> Piece
     requires inside { at + 1 < length text.now }
     requires first { slice_index text.now at ≡ 59 }
@@ -74,7 +74,7 @@ fn line_comment(text: &[u8], at: usize) -> Piece
     }
 }
 
-/// The run at a place.
+/// Returns the run at an offset.
 fn word(text: &[u8], at: usize) -> Result<Piece, Error>
     requires inside { at < length text.now }
     requires no_space { is_space (slice_index text.now at) ≡ false }
@@ -102,7 +102,7 @@ fn word(text: &[u8], at: usize) -> Result<Piece, Error>
     }
 }
 
-/// The piece at a place where no space is.
+/// Returns the piece at an offset whose byte isn't a space.
 pub(crate) fn piece_at(text: &[u8], at: usize) -> Result<Piece, Error>
     requires inside { at < length text.now }
     requires no_space { is_space (slice_index text.now at) ≡ false }

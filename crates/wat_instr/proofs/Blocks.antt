@@ -1,4 +1,4 @@
--- Blocks of which nothing is said.
+-- Blocks without a label, name or type.
 use Rattle.std.proofs.Common.{◌≡◌, ◌||◌, ℕ, Bool, List, Option, Some, None, true, false, refl}
 use Rattle.std.specs.Prelude.{not, is_some}
 use Rattle.wat_tokens.specs.Index.{Idx}
@@ -23,6 +23,6 @@ with_type false (Some x) t e = refl
 with_type false None (Some t) e = refl
 with_type false None None e = absurd cc
 
--- of a block with a type that holds memory something is said
+-- a block that owns memory has a label, a name or a type
 pub not_bare : (b : BlockTy) → bare_block b ≡ false → not (says_something b) ≡ false
 not_bare b e = with_type (labelled b.label) b.ty.index b.ty.inline e

@@ -1,4 +1,4 @@
--- No operand begins with one of the words `type`, `param` and `result`.
+-- No operand begins with the keyword `type`, `param` or `result`.
 use Rattle.std.proofs.Common.{◌≡◌, ℕ, ◌⊎◌, Bool, true, false, List, [], ◌∷◌, ◌++◌, Option, Some, None, codes, bytes_eq, refl, subst, sym, ap, ◌∙◌, inl, inr}
 use Rattle.std.proofs.lemmas.List.{append-nil}
 use Rattle.std.specs.Cmp.Lexicographic.{bytes_decides}
@@ -46,7 +46,7 @@ use Rattle.wat_instr.specs.Operand.{operand}
 use Rattle.wat_instr.specs.Instruction.{Instr, instruction}
 use Rattle.wat_instr.proofs.Words.{may_follow}
 
--- none of the three words is in front
+-- the first token is not one of the three keywords
 record Fresh (c : List Tok) : Type 0 where
   pub not_type : begins_word (codes "type") c ≡ false
   pub not_param : begins_word (codes "param") c ≡ false
@@ -55,7 +55,7 @@ record Fresh (c : List Tok) : Type 0 where
 abbrev fresh : {c : List Tok} → begins_word (codes "type") c ≡ false → begins_word (codes "param") c ≡ false → begins_word (codes "result") c ≡ false → Fresh c
 fresh p q r = record { not_type = p; not_param = q; not_result = r }
 
--- what is spelled begins with none of them
+-- no spelling of a value begins with one of the three keywords
 abbrev BeginsFresh : {A : Type 0} → Production A → Type 0
 BeginsFresh {A} g = (v : A) (c r : List Tok) → g.spells v c r → Fresh c
 
@@ -66,7 +66,7 @@ both [] d p q = q
 both (Keyword k ∷ c) d p q = fresh p.not_type p.not_param p.not_result
 both (_ ∷ c) d p q = fresh refl refl refl
 
--- one part behind another
+-- two parts in sequence
 in_both : {c d e : List Tok} → c ≡ d ++ e → Fresh d → Fresh e → Fresh c
 in_both {d = d} {e = e} is p q = subst Fresh (sym is) (both d e p q)
 
@@ -76,7 +76,7 @@ empty is = rw is (fresh refl refl refl)
 group : {c d : List Tok} → c ≡ LParen ∷ d → Fresh c
 group is = rw is (fresh refl refl refl)
 
--- the test holds of none of the three words
+-- f accepts none of the three keywords
 abbrev NoTypeWord : {A : Type 0} → (Tok → Option A) → Type 0
 NoTypeWord f = (f (Keyword (codes "type")) ≡ None) × (f (Keyword (codes "param")) ≡ None) × (f (Keyword (codes "result")) ≡ None)
 
@@ -87,7 +87,7 @@ other_word f w (Keyword k) v e n h =
     (λ t. t)
 other_word f w _ v e n h = refl
 
--- a token, and whatever is behind it
+-- a token that f accepts, and any tokens after it
 in_front : {A : Type 0} {v : A} {c d : List Tok} (f : Tok → Option A) → NoTypeWord f → (e : List Tok) → c ≡ d ++ e → (x : Tok) × (d ≡ x ∷ []) × (f x ≡ Some v) → Fresh c
 in_front {v = v} f n e is s =
     rw (is, s.1) (fresh (other_word f (codes "type") s.0 v e n.0 s.2) (other_word f (codes "param") s.0 v e n.1 s.2) (other_word f (codes "result") s.0 v e n.2 s.2))
@@ -156,7 +156,7 @@ index_or_0_fresh : BeginsFresh index_or_0
 unfolding index_or_0
 index_or_0_fresh v c r s = maybe begins_index index index_fresh s.0 c r s.1
 
--- an index in front
+-- an index first
 index_first : {A : Type 0} (g : Production A) → BeginsFresh (seq index g)
 index_first g v c r s = in_front index_of (refl, refl, refl) s.1 s.2 s.3
 
@@ -185,7 +185,7 @@ unfolding ordering
 ordering_fresh v c r s =
     either s (λ a. one (word_only (codes "seqcst")) (refl, refl, refl) a.1) (λ a. one (word_only (codes "acqrel")) (refl, refl, refl) a.1)
 
--- an ordering in front
+-- an ordering first
 ordered_fresh : {A : Type 0} (g : Production A) → BeginsFresh (ordered g)
 unfolding ordering
 ordered_fresh g v c r s =
@@ -335,7 +335,7 @@ operand_fresh ops.ref_cast_desc_eq v c r s = ref_fresh s.0 c r s.1
 operand_fresh ops.br_on_cast_desc_eq v c r s = cast_fresh s.0 c r s.1
 operand_fresh ops.br_on_cast_desc_eq_fail v c r s = cast_fresh s.0 c r s.1
 
--- an instruction in front of what may follow may follow
+-- an instruction before a rest that may follow is also a rest that may follow
 pub goes_before : (v : Instr) (c r s : List Tok) → instruction.spells v c r → MayFollow s → MayFollow (c ++ s)
 unfolding instruction
 goes_before v c r s h m =

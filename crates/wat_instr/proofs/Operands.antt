@@ -1,4 +1,4 @@
--- Operands that are read as their types are.
+-- Operands that the production of their type reads.
 use Rattle.std.proofs.Common.{true, List, Err, subst, sym, refl}
 use Rattle.wat_tokens.specs.Cost.{Cost, Costs}
 use Rattle.wat_tokens.specs.Error.{Error}
@@ -14,7 +14,7 @@ use Rattle.wat_instr.specs.Operand.{Operand, bare_operand, operand}
 use Rattle.wat_instr.specs.OperandOf.{IsOperandOf}
 use Rattle.wat_instr.specs.Reading.{ReadsOperand}
 
--- where none was read, no instruction is
+-- if the operand is refused, no instruction is read
 pub refused_operand : {X V : Type 0} {h : Op} {seen : X → Operand} {k : Cost} {view : ViewOf X V} {g : Production V} → IsOperandOf h seen k view g → (a b : State) (e : Error) (before : List Instr) → Call {X = X} k view (g.reads a.left) (Err e) a b → ReadsOperand {X = Unit {0}} h before before (Err e) a b
 unfolding ReadsOperand
 refused_operand {h = h} {view = view} {g = g} is a b e before c = record {

@@ -1,4 +1,4 @@
--- Which instructions the rows of blocks, of `if` and of `br_if` are.
+-- The instructions in the rows of blocks, of `if` and of `br_if`.
 use Rattle.std.specs.Prelude.{◌≡◌, ◌==◌, Bool, true, false, refl}
 use Rattle.std.proofs.Common.{ap, sym, ◌∙◌}
 use Rattle.std.proofs.lemmas.Bool.{eqb-true}
@@ -11,7 +11,7 @@ use Rattle.wat_mnemonics.specs.declared.indexed.IndexedOp.TheVariants as indexed
 use Rattle.wat_mnemonics.specs.Laws.Places.{one_row}
 use Rattle.wat_instr.specs.Instruction.{is_block, is_if, is_br_if}
 
--- ---- what the code matches
+-- ---- the patterns of the code
 
 -- `block`, `loop` and `try_table`
 abbrev pub matches_block : Op → Bool
@@ -30,7 +30,7 @@ abbrev pub matches_br_if : Op → Bool
 matches_br_if (ops.Indexed indexed.br_if) = true
 matches_br_if _ = false
 
--- ---- each of these is the test of the row
+-- ---- each pattern is equal to the test of the row
 
 same_row : (x y : Op) → (op_row x == op_row y) ≡ true → x ≡ y
 same_row x y e = one_row x y (eqb-true (op_row x) (op_row y) e)
@@ -55,7 +55,7 @@ no_other_if : (h : Op) → (op_row h == op_row (ops.Block block.if_)) ≡ false 
 no_other_if (ops.Block block.if_) a = absurd cc
 no_other_if _ a = refl
 
--- a test that the instruction t alone passes
+-- a test that only the instruction t passes
 one_op : (t : Op) (test : Op → Bool) → test t ≡ true → ((h : Op) → (op_row h == op_row t) ≡ false → test h ≡ false) → (h : Op) → (op_row h == op_row t) ≡ test h
 one_op t test passes others h =
     by_test (op_row h == op_row t)

@@ -1,4 +1,4 @@
--- The tests by which parts of an instruction are told apart, and for which rests they stay as they are.
+-- The tests that distinguish the parts of an instruction, and the rests for which they are stable.
 use Rattle.std.proofs.Common.{◌≡◌, ℕ, ◌≤◌, Bool, true, false, List, [], ◌∷◌, ◌++◌, length, codes, ap, sym, ◌∙◌, refl, arith}
 use Rattle.wat_tokens.specs.Token.{Tok, LParen, Integer}
 use Rattle.wat_tokens.specs.Tests.{begins_word, begins_group, begins_annotation, begins_id, more, second, word_in}
@@ -12,18 +12,18 @@ use Rattle.wat_instr.specs.Laws.Rests.{Stable, Tested}
 use Rattle.wat_instr.specs.Laws.Sees.{Sees, begins_word_sees, begins_index_sees, begins_id_sees, begins_with_sees, one_of_sees, more_sees, begins_group_sees, begins_annotation_sees, second_sees, is_alone_sees}
 use Rattle.wat_instr.proofs.Rests.{Follows, Alike, following}
 
--- ---- by how many tokens a test looks at
+-- ---- by the number of tokens that a test looks at
 
--- where it fails behind a prefix of n tokens or more, it fails with what may follow in place of the
--- rest
+-- if the test fails on a prefix of at least n tokens and a rest, it also fails if a rest that may
+-- follow replaces that rest
 abbrev StaysFalse : ℕ → (List Tok → Bool) → Type 0
 StaysFalse n test = (e r s : List Tok) → n ≤ length e → opens e ≤ closes e → Follows s → test (e ++ r) ≡ false → test (e ++ s) ≡ false
 
--- it fails on what may follow
+-- the test fails on a rest that may follow
 abbrev FailsFirst : (List Tok → Bool) → Type 0
 FailsFirst test = (s : List Tok) → Follows s → test s ≡ false
 
--- it fails on what may follow behind one token, which isn't `(`
+-- the test fails on one token other than `(` and a rest that may follow
 abbrev FailsSecond : (List Tok → Bool) → Type 0
 FailsSecond test = (x : Tok) (s : List Tok) → opens (x ∷ []) ≤ closes (x ∷ []) → Follows s → test (x ∷ s) ≡ false
 
@@ -62,7 +62,7 @@ module _ (test : List Tok → Bool) where
   steady_2_0 : Sees 2 test → FailsSecond test → FailsFirst test → Stable following 2 0 test
   steady_2_0 sees fails first = record { holds = seen_holds 2 sees; fails = false_fails 0 (at_once (behind_one sees fails) first) }
 
--- ---- what it fails on
+-- ---- where tests fail
 
 no_group : (w : List ℕ) → FailsSecond (begins_group w)
 no_group w LParen s shut f = absurd (omega (arith, shut))
@@ -72,9 +72,9 @@ no_annotation : (n : List ℕ) → FailsSecond (begins_annotation n)
 no_annotation n LParen s shut f = absurd (omega (arith, shut))
 no_annotation n _ s shut f = refl
 
--- ---- the second token, whatever the first is
+-- ---- the second token, after any first token
 
--- a test that fails on what may follow, and behind its first token too
+-- a test that fails on a rest that may follow, and on the rest after its first token
 second_steady : (test : List Tok → Bool) → Sees 1 test → FailsFirst test → FailsFirst (second test) → Stable following 2 0 (second test)
 second_steady test sees first behind = steady_2_0 (second test) (second_sees test sees) (λ x s shut f. first s f) behind
 
@@ -107,7 +107,7 @@ tested = record {
   second_type = second_steady (begins_word (codes "type")) (begins_word_sees (codes "type")) (λ s f. f.not_type) (λ s f. f.then.0);
   second_param = second_steady (begins_word (codes "param")) (begins_word_sees (codes "param")) (λ s f. f.not_param) (λ s f. f.then.1);
   second_result = second_steady (begins_word (codes "result")) (begins_word_sees (codes "result")) (λ s f. f.not_result) (λ s f. f.then.2);
-  -- a rest may begin so behind its word, so that at least one token has to stand before the rest
+  -- the second token of a rest can be an index, so at least one token has to precede the rest
   second_index = steady_2_1 (second begins_index) (second_sees begins_index begins_index_sees) (λ x s shut f. f.no_index);
   alone = record {
     holds = λ t u a k. ap is_alone a.new_is ∙ alone_before a.front a.old a.new a.fits.0 a.fits.2 (sym (ap is_alone a.old_is) ∙ k);

@@ -1,4 +1,4 @@
--- No mnemonic is a word that a part of an instruction is asked to begin with.
+-- No mnemonic is a keyword that a part of an instruction is tested for.
 use Rattle.std.proofs.Common.{◌≡◌, ℕ, zero, suc, ◌<◌, Bool, false, ◌||◌, is_some, List, [], ◌∷◌, length, get_or, codes, bytes_eq, refl, subst, sym, arith, true, ◌⊎◌, inl, inr}
 use Rattle.std.proofs.lemmas.Bool.{or_parts}
 use Rattle.wat_tokens.specs.Token.{Tok, Keyword}
@@ -16,7 +16,7 @@ use Rattle.wat_instr.specs.Follows.{BeginsMnemonic, NoTypeSecond, MayFollow}
 use Rattle.wat_instr.specs.Laws.Sees.{fails_at_end}
 use Rattle.wat_instr.proofs.Rests.{IsPlain, Follows}
 
--- the word is one that a part of an instruction may be asked to begin with
+-- a part of an instruction is tested for this keyword
 abbrev asked : List ℕ → Bool
 asked w =
     bytes_eq w (codes "type") || (bytes_eq w (codes "param") || (bytes_eq w (codes "result") || (bytes_eq w (codes "seqcst") || (bytes_eq w (codes "acqrel")
@@ -32,7 +32,7 @@ not_asked w e =
     let g = or_parts _ _ f.1 in
     record { not_type = a.0; not_param = b.0; not_result = c.0; not_seqcst = d.0; not_acqrel = f.0; no_offset = g.0; no_align = g.1 }
 
--- one of the words is
+-- one of the mnemonics is such a keyword
 abbrev any_asked : List Op → Bool
 any_asked [] = false
 any_asked (x ∷ xs) = asked (op_word x) || any_asked xs
@@ -51,7 +51,7 @@ mnemonic_is_plain x =
     let e = asked_at all_ops (place x) none_asked (let l = table_length in let b = place_below x in omega arith) in
     not_asked (op_word x) (subst (λ (y : Op). asked (op_word y) ≡ false) (there x) e)
 
--- each test fails on such a word
+-- each test fails on a plain word
 word_follows : (w : List ℕ) (t : List Tok) → IsPlain w → NoTypeSecond (Keyword w ∷ t) → Follows (Keyword w ∷ t)
 word_follows w t p e = record {
   not_type = p.not_type;
@@ -69,7 +69,7 @@ word_follows w t p e = record {
   then = e;
 }
 
--- and where a group ends
+-- each test fails at the end of a group
 end_follows : (s : List Tok) → ends s ≡ true → NoTypeSecond s → Follows s
 end_follows s k e = record {
   not_type = fails_at_end (begins_word (codes "type")) refl (λ x. refl) s k;

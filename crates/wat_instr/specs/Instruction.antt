@@ -54,13 +54,13 @@ use Rattle.wat_operands.specs.declared.casts.RefCastDescEq.{RefCastDescEq}
 use Rattle.wat_operands.specs.declared.casts.BrOnCastDescEq.{BrOnCastDescEq}
 use Rattle.wat_operands.specs.declared.casts.BrOnCastDescEqFail.{BrOnCastDescEqFail}
 
--- the instruction of a text
+-- an instruction that borrows from a text
 abbrev pub Instruction : Type 0
 Instruction =
     InstructionOf BlockType Id Index CallIndirect MemArg SelectTypes HeapType RefTest RefCast
     BrOnCast BrOnCastFail TryTable RefCastDescEq BrOnCastDescEq BrOnCastDescEqFail
 
--- ---- what contracts see
+-- ---- the view of contracts
 
 -- the instruction without its operand
 abbrev pub op_in : {BlockType Id Index CallIndirect MemArg SelectTypes HeapType RefTest RefCast
@@ -118,11 +118,11 @@ op_in (code.ref_cast_desc_eq x) = ops.ref_cast_desc_eq
 op_in (code.br_on_cast_desc_eq x) = ops.br_on_cast_desc_eq
 op_in (code.br_on_cast_desc_eq_fail x) = ops.br_on_cast_desc_eq_fail
 
--- a block of which nothing is said: it has neither a label nor a name nor a type
+-- the block type without a label, name or type
 abbrev pub no_block : BlockTy
 no_block = block_of no_label (use_of None None)
 
--- what is said of a block, which is in a box unless that is nothing
+-- the block type of an optional box; None is the block type without a label, name or type
 abbrev pub block_in : Option (Box BlockType) → BlockTy
 block_in (Some b) = block_view b.value
 block_in None = no_block
@@ -191,21 +191,21 @@ instr_of h o = record { row = op_row h; operand = o }
 abbrev pub instruction_view : Instruction → Instr
 instruction_view i = instr_of (op_in i) (operand_in i)
 
--- its operand holds no memory
+-- the operand owns no memory
 abbrev pub bare_instruction : Instr → Bool
 bare_instruction i = bare_operand i.operand
 
 -- ---- the grammar
 
--- an instruction, behind its word
+-- an instruction, after its mnemonic
 abbrev pub behind_word : Op → Production Instr
 behind_word h = made (instr_of h) (operand h)
 
--- the row's word, then what its operand is spelled as
+-- the mnemonic, then the operand
 unfoldable pub instruction : Production Instr
 instruction = followed mnemonic behind_word
 
--- ---- those that expressions know
+-- ---- instructions that expressions distinguish
 
 -- `block`, `loop` and `try_table`
 abbrev pub is_block : ℕ → Bool

@@ -1,4 +1,4 @@
--- Laws of the definitions: lemmas that definitions or other crates rest on.
+-- Laws of the definitions: lemmas that definitions or other crates use.
 pub mod First
 pub mod Immediates
 pub mod Operands

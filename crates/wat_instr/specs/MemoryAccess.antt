@@ -1,11 +1,11 @@
--- The access to a memory that an instruction has.
+-- The memory access of an instruction.
 use Rattle.std.specs.Prelude.{Option, Some, None}
 use Rattle.std.specs.Borrow.{LendsIf, MutBor, Fml, RattleType}
 use Rattle.wat_instr.specs.contracts.instruction.InstructionOf as instructions
 use Rattle.wat_instr.specs.declared.instruction.InstructionOf.{InstructionOf}
 use Rattle.wat_instr.specs.declared.instruction.InstructionOf.TheVariants as code
 
--- the operand of an access to a memory, atomic or not, or the access of one to a lane
+-- the operand of a memory access, atomic or not, or the memory access of a lane access
 abbrev pub access_in : {BlockType Id Index CallIndirect MemArg SelectTypes HeapType RefTest RefCast
     BrOnCast BrOnCastFail TryTable RefCastDescEq BrOnCastDescEq BrOnCastDescEqFail : Type 0}
     → InstructionOf BlockType Id Index CallIndirect MemArg SelectTypes HeapType RefTest RefCast
@@ -61,7 +61,7 @@ access_in (code.ref_cast_desc_eq x) = None
 access_in (code.br_on_cast_desc_eq x) = None
 access_in (code.br_on_cast_desc_eq_fail x) = None
 
--- the same instruction with another access, where it has one
+-- the same instruction with another memory access, if it has a memory access
 abbrev pub with_access : {BlockType Id Index CallIndirect MemArg SelectTypes HeapType RefTest
     RefCast BrOnCast BrOnCastFail TryTable RefCastDescEq BrOnCastDescEq BrOnCastDescEqFail : Type 0}
     → InstructionOf BlockType Id Index CallIndirect MemArg SelectTypes HeapType RefTest RefCast
@@ -119,7 +119,7 @@ with_access (code.ref_cast_desc_eq x) w = code.ref_cast_desc_eq x
 with_access (code.br_on_cast_desc_eq x) w = code.br_on_cast_desc_eq x
 with_access (code.br_on_cast_desc_eq_fail x) w = code.br_on_cast_desc_eq_fail x
 
--- what is written through the result becomes the access, and nothing else changes
+-- a write through the result replaces the memory access, and nothing else changes
 abbrev pub LendsAccess : (BlockType Id Index CallIndirect MemArg SelectTypes HeapType RefTest
     RefCast BrOnCast BrOnCastFail TryTable RefCastDescEq BrOnCastDescEq BrOnCastDescEqFail :
     RattleType)

@@ -1,4 +1,4 @@
--- What follows the word of an instruction.
+-- Operands: the tokens after the mnemonic of an instruction.
 use Rattle.std.specs.Prelude.{ℕ, ℤ, Bool, true, false, not, ◌||◌, List, Option, is_some}
 use Rattle.wat_tokens.specs.Production.{Production}
 use Rattle.wat_tokens.specs.Parts.{made, opt}
@@ -36,13 +36,13 @@ use Rattle.wat_mnemonics.specs.declared.op.Op.{Op}
 use Rattle.wat_mnemonics.specs.declared.op.Op.TheVariants as ops
 use Rattle.wat_tokens.specs.Followed.{blank}
 
--- an operand, without places; boxes by what they hold, vectors by their items
+-- an operand without places; boxes are seen as their contents, and vectors as their items
 pub data Operand : Type 0 where
   -- no operand
   nothing : Operand
-  -- of a block
+  -- the block type of a block
   block : BlockTy → Operand
-  -- the label that may be at `else` and `end`
+  -- the optional label of `else` and `end`
   label : Option (List ℕ) → Operand
   -- an index, also of a table or a memory
   one_index : Idx → Operand
@@ -50,17 +50,17 @@ pub data Operand : Type 0 where
   two_indices : Idx × Idx → Operand
   -- the labels of a `br_table`
   branches : BrTableTy → Operand
-  -- of an indirect call
+  -- the operand of an indirect call
   call : CallTy → Operand
   -- the types of a `select`
   chosen : Option (List ValTy) → Operand
-  -- of an access to a memory
+  -- the operand of a memory access
   access : MemArgTy → Operand
-  -- an index, of an atomic access
+  -- the ordering and the index of an atomic access
   ordered_index : Ordering × Idx → Operand
-  -- two indices, of an atomic access
+  -- the ordering and the two indices of an atomic access
   ordered_indices : Ordering × (Idx × Idx) → Operand
-  -- of an access to one lane
+  -- the operand of an access to one lane
   lane_access : LaneAccessTy → Operand
   -- a lane
   lane : LaneArg → Operand
@@ -70,31 +70,31 @@ pub data Operand : Type 0 where
   sized : Idx × ℕ → Operand
   -- a reference type
   reference : RefTy → Operand
-  -- of a branch on a cast
+  -- the operand of a branch on a cast
   cast : BranchTy → Operand
   -- an integer
   integer : ℤ → Operand
   -- a floating-point number, as its bits
   float : ℕ → Operand
-  -- the ordering of a fence, where one is written
+  -- the optional ordering of a fence
   fence : Option Ordering → Operand
   -- a vector
   vector : V128Const → Operand
   -- the lanes of a shuffle
   shuffled : I8x16Shuffle → Operand
-  -- of a `try_table`
+  -- the operand of a `try_table`
   caught : TryTy → Operand
   -- a type and handlers
   resumed : ResumeTy → Operand
   -- a type, a tag and handlers
   thrown : ThrowTy → Operand
 
--- something is said of a block: it has a label, a name or a type
+-- the block has a label, a name or a type
 abbrev pub says_something : BlockTy → Bool
 says_something b = labelled b.label || (is_some b.ty.index || is_some b.ty.inline)
 
--- it holds no memory: no box, and no vector that has an item; a block of which nothing is said
--- needs no box
+-- The operand owns no memory: no box, and no vector with items. A block without a label, name or
+-- type needs no box.
 abbrev pub bare_operand : Operand → Bool
 bare_operand nothing = true
 bare_operand (block x) = not (says_something x)
@@ -122,7 +122,7 @@ bare_operand (caught x) = false
 bare_operand (resumed x) = bare_resume x
 bare_operand (thrown x) = false
 
--- what follows the word of the instruction, as 50 cases
+-- the production of the operand of an instruction, as 50 cases
 unfoldable pub operand : Op → Production Operand
 operand (ops.Block op) = made block block_type
 operand (ops.Label op) = made label (opt begins_id identifier)

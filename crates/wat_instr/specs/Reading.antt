@@ -1,4 +1,4 @@
--- What a call does that reads an operand, and puts the instruction where it stays.
+-- The effect of a call that reads an operand and appends the instruction to its destination.
 use Rattle.std.specs.Prelude.{◌≡◌, ◌++◌, ◌∷◌, [], true, List, Option, Some, None, Result, Ok, Err}
 use Rattle.wat_tokens.specs.Cost.{tokens_alone, Costs}
 use Rattle.wat_tokens.specs.Counts.{Counted, SameSettings}
@@ -11,24 +11,26 @@ use Rattle.wat_mnemonics.specs.declared.op.Op.{Op}
 use Rattle.wat_instr.specs.Instruction.{Instr, Instruction, instruction_view, bare_instruction}
 use Rattle.wat_instr.specs.Instruction.{behind_word}
 
--- what is in a slot for one instruction
+-- the instructions in a slot for one instruction
 abbrev pub in_slot : Option Instruction → List Instr
 in_slot (Some i) = instruction_view i ∷ []
 in_slot None = []
 
--- what is in front, behind the instructions `before`
+-- the result of `read`, with the instructions `before` prepended
 abbrev pub put_behind : List Instr → Read Instr → Read (List Instr)
 put_behind before read = bind read (λ v r. Some (before ++ v ∷ [], r))
 
--- `before` was in a place, and `after` is: with the instruction that is in front, and `left` is
--- left; or nothing was put, and a refusal means what that of a parse does
+-- The destination held `before`, and now holds `after`. With Ok, `after` is `before` and the next
+-- instruction, and `left` is left. With Err, `after` is `before`, and the refusal means the same as
+-- a refusal by a parse.
 abbrev pub Puts : {X : Type 0} → List Instr → List Instr → Result X Error → Read Instr → List Tok
     → Type 0
 Puts before after (Ok x) read left = put_behind before read ≡ Some (after, left)
 Puts before after (Err e) read left =
     Refuses true bare_instruction e.fault read × (after ≡ before)
 
--- From a to b a call answered r, where `read` stood in front. It counts tokens alone.
+-- A call took the state a to b and returned r; `read` is the result of reading an instruction
+-- in a. The call counts only tokens.
 pub record PutsWhatIsRead {X : Type 0} (before after : List Instr) (read : Read Instr)
     (r : Result X Error) (a b : State) : Type 0 where
   pub exact : Puts before after r read b.left
@@ -36,7 +38,7 @@ pub record PutsWhatIsRead {X : Type 0} (before after : List Instr) (read : Read 
   pub cost : Costs tokens_alone a b
   pub settings : SameSettings a b
 
--- it puts the instruction whose word was taken, with the operand that is in front
+-- the call appends the instruction whose mnemonic was taken, with the operand that is next
 unfoldable pub ReadsOperand : {X : Type 0} → Op → List Instr → List Instr → Result X Error
     → State → State → Type 0
 ReadsOperand h before after r a b =

@@ -1,4 +1,4 @@
--- When an instruction is another one once more.
+-- When an instruction is a copy of another instruction.
 use Rattle.std.specs.Global.{Box}
 use Rattle.std.specs.Prelude.{◌≡◌, true, false, Option, Some, None}
 use Rattle.wat_operands.specs.Block.{SameBlock, block_view}
@@ -10,15 +10,15 @@ use Rattle.wat_instr.specs.Instruction.{Instruction, block_in}
 use Rattle.wat_instr.specs.Operand.{says_something}
 use Rattle.wat_instr.specs.declared.instruction.InstructionOf.TheVariants as code
 
--- what is said of a block is the same, and is in a box only where that is something
+-- the block types are the same; the copy has a box only if the block has a label, a name or a type
 abbrev pub SameSaid : Option (Box BlockType) → Option (Box BlockType) → Type 0
 SameSaid (Some x) (Some y) =
     (says_something (block_view x.value) ≡ true) × SameBlock x.value y.value
 SameSaid x None = says_something (block_in x) ≡ false
 SameSaid None (Some y) = ⊥
 
--- every part is the same, the places too: boxes and lists hold the same, and any other instruction
--- is that one
+-- Every part is the same, including places. Boxes and lists have the same contents. Any other
+-- instruction is equal to its copy.
 abbrev pub SameInstruction : Instruction → Instruction → Type 0
 SameInstruction (code.Block op x) (code.Block op' y) = (op' ≡ op) × SameSaid x y
 SameInstruction (code.CallIndirect op x) (code.CallIndirect op' y) =

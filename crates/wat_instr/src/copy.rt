@@ -16,8 +16,10 @@ use wat_operands::{
 use wat_tokens::{Error, Id, Index, Result};
 
 impl<'a> Instruction<'a> {
-    /// Returns a copy. In it, a block with neither a label nor a name nor a type has no box. It can
-    /// fail with Memory only if the operand is in a box or has a list that isn't empty.
+    /// Returns a copy. A copied block without a label, name or type has no box.
+    ///
+    /// The only error is Memory. It is possible only if the operand is in a box or has a list that
+    /// isn't empty.
     pub fn clone(&self) -> Result<Instruction<'a>>
         ensures copies { Copies SameInstruction (owning instruction_view bare_instruction) result
             self.now }
@@ -174,7 +176,7 @@ impl<'a> Instruction<'a> {
     }
 }
 
-/// `block`, `loop`, `if` or `try`, and what is said of the block, once more.
+/// Copies `block`, `loop`, `if` or `try` with its block type.
 #[tactic(auto, using(crate::proofs::Blocks::nothing_said))]
 fn clone_block<'a>(op: BlockOp, x: &Option<Box<BlockType<'a>>>) -> Result<Instruction<'a>>
     ensures copies { Copies SameInstruction (owning instruction_view bare_instruction) result
@@ -189,7 +191,7 @@ fn clone_block<'a>(op: BlockOp, x: &Option<Box<BlockType<'a>>>) -> Result<Instru
     }
 }
 
-/// `else`, `end` or another instruction that may name a label, once more.
+/// Copies `else` or `end` with its label.
 fn clone_label<'a>(op: LabelOp, x: &Option<Id<'a>>) -> Result<Instruction<'a>>
     ensures copies { Copies SameInstruction (owning instruction_view bare_instruction) result
         (code.Label op x.now) }
@@ -197,7 +199,7 @@ fn clone_label<'a>(op: LabelOp, x: &Option<Id<'a>>) -> Result<Instruction<'a>>
     Ok(Instruction::Label(op, *x))
 }
 
-/// An instruction with an index, once more.
+/// Copies an instruction with an index.
 fn clone_indexed<'a>(op: IndexedOp, x: &Index<'a>) -> Result<Instruction<'a>>
     ensures copies { Copies SameInstruction (owning instruction_view bare_instruction) result
         (code.Indexed op x.now) }
@@ -205,7 +207,7 @@ fn clone_indexed<'a>(op: IndexedOp, x: &Index<'a>) -> Result<Instruction<'a>>
     Ok(Instruction::Indexed(op, *x))
 }
 
-/// An indirect call, once more.
+/// Copies an indirect call.
 fn clone_call_indirect<'a>(op: CallIndirectOp, x: &Box<CallIndirect<'a>>) -> Result<Instruction<'a>>
     ensures copies { Copies SameInstruction (owning instruction_view bare_instruction) result
         (code.CallIndirect op x.now) }
@@ -214,7 +216,7 @@ fn clone_call_indirect<'a>(op: CallIndirectOp, x: &Box<CallIndirect<'a>>) -> Res
     Ok(Instruction::CallIndirect(op, Box::new(*Box::allocator(x), same)?))
 }
 
-/// `br_table`, once more.
+/// Copies `br_table`.
 fn clone_br_table<'a>(x: &BrTableIndices<'a>) -> Result<Instruction<'a>>
     ensures copies { Copies SameInstruction (owning instruction_view bare_instruction) result
         (code.br_table x.now) }
@@ -225,7 +227,7 @@ fn clone_br_table<'a>(x: &BrTableIndices<'a>) -> Result<Instruction<'a>>
     }
 }
 
-/// `select`, once more.
+/// Copies `select`.
 fn clone_select<'a>(x: &SelectTypes<'a>) -> Result<Instruction<'a>>
     ensures copies { Copies SameInstruction (owning instruction_view bare_instruction) result
         (code.select x.now) }
@@ -236,7 +238,7 @@ fn clone_select<'a>(x: &SelectTypes<'a>) -> Result<Instruction<'a>>
     }
 }
 
-/// `br_on_cast`, once more.
+/// Copies `br_on_cast`.
 fn clone_br_on_cast<'a>(x: &Box<BrOnCast<'a>>) -> Result<Instruction<'a>>
     ensures copies { Copies SameInstruction (owning instruction_view bare_instruction) result
         (code.br_on_cast x.now) }
@@ -247,7 +249,7 @@ fn clone_br_on_cast<'a>(x: &Box<BrOnCast<'a>>) -> Result<Instruction<'a>>
     }
 }
 
-/// `br_on_cast_fail`, once more.
+/// Copies `br_on_cast_fail`.
 fn clone_br_on_cast_fail<'a>(x: &Box<BrOnCastFail<'a>>) -> Result<Instruction<'a>>
     ensures copies { Copies SameInstruction (owning instruction_view bare_instruction) result
         (code.br_on_cast_fail x.now) }
@@ -258,7 +260,7 @@ fn clone_br_on_cast_fail<'a>(x: &Box<BrOnCastFail<'a>>) -> Result<Instruction<'a
     }
 }
 
-/// `try_table`, once more.
+/// Copies `try_table`.
 fn clone_try_table<'a>(x: &TryTable<'a>) -> Result<Instruction<'a>>
     ensures copies { Copies SameInstruction (owning instruction_view bare_instruction) result
         (code.try_table x.now) }
@@ -269,7 +271,7 @@ fn clone_try_table<'a>(x: &TryTable<'a>) -> Result<Instruction<'a>>
     }
 }
 
-/// `resume`, once more.
+/// Copies `resume`.
 fn clone_resume<'a>(x: &Resume<'a>) -> Result<Instruction<'a>>
     ensures copies { Copies SameInstruction (owning instruction_view bare_instruction) result
         (code.resume x.now) }
@@ -280,7 +282,7 @@ fn clone_resume<'a>(x: &Resume<'a>) -> Result<Instruction<'a>>
     }
 }
 
-/// `resume_throw`, once more.
+/// Copies `resume_throw`.
 fn clone_resume_throw<'a>(x: &Box<ResumeThrow<'a>>) -> Result<Instruction<'a>>
     ensures copies { Copies SameInstruction (owning instruction_view bare_instruction) result
         (code.resume_throw x.now) }
@@ -289,7 +291,7 @@ fn clone_resume_throw<'a>(x: &Box<ResumeThrow<'a>>) -> Result<Instruction<'a>>
     Ok(Instruction::resume_throw(Box::new(*Box::allocator(x), same)?))
 }
 
-/// `resume_throw_ref`, once more.
+/// Copies `resume_throw_ref`.
 fn clone_resume_throw_ref<'a>(x: &ResumeThrowRef<'a>) -> Result<Instruction<'a>>
     ensures copies { Copies SameInstruction (owning instruction_view bare_instruction) result
         (code.resume_throw_ref x.now) }
@@ -300,7 +302,7 @@ fn clone_resume_throw_ref<'a>(x: &ResumeThrowRef<'a>) -> Result<Instruction<'a>>
     }
 }
 
-/// `br_on_cast_desc_eq`, once more.
+/// Copies `br_on_cast_desc_eq`.
 fn clone_br_on_cast_desc_eq<'a>(x: &Box<BrOnCastDescEq<'a>>) -> Result<Instruction<'a>>
     ensures copies { Copies SameInstruction (owning instruction_view bare_instruction) result
         (code.br_on_cast_desc_eq x.now) }
@@ -311,7 +313,7 @@ fn clone_br_on_cast_desc_eq<'a>(x: &Box<BrOnCastDescEq<'a>>) -> Result<Instructi
     }
 }
 
-/// `br_on_cast_desc_eq_fail`, once more.
+/// Copies `br_on_cast_desc_eq_fail`.
 fn clone_br_on_cast_desc_eq_fail<'a>(x: &Box<BrOnCastDescEqFail<'a>>) -> Result<Instruction<'a>>
     ensures copies { Copies SameInstruction (owning instruction_view bare_instruction) result
         (code.br_on_cast_desc_eq_fail x.now) }

@@ -29,7 +29,7 @@ use wat_operands::{
 use wat_tokens::ownership::discard;
 use wat_tokens::{Fault, Id, Index, Parse, Parser, Result};
 
-/// Whether a block has a label, a name or a type.
+/// Returns whether a block has a label, a name or a type.
 pub(crate) fn says_something(block: &BlockType) -> bool
     ensures { result ≡ says_something (block_view block.now) }
 {
@@ -37,7 +37,8 @@ pub(crate) fn says_something(block: &BlockType) -> bool
     names || block.ty.index.is_some() || block.ty.inline.is_some()
 }
 
-/// What is said of a block, in a box; None where nothing is. Memory refuses the box.
+/// Returns the block type in a box, or None if it has no label, no name and no type. The only error
+/// is Memory.
 #[tactic(auto, using(crate::proofs::Blocks::nothing_said))]
 fn boxed<'a>(alloc: Global, block: BlockType<'a>) -> Result<Option<Box<BlockType<'a>>>>
     ensures value { IfOk result (λ b. block_in b ≡ block_view block.entry) }
@@ -51,7 +52,7 @@ fn boxed<'a>(alloc: Global, block: BlockType<'a>) -> Result<Option<Box<BlockType
     Ok(None)
 }
 
-/// `block`, `loop`, `if` or `try`, and what is said of the block.
+/// Parses the block type of `block`, `loop`, `if` or `try`.
 #[inline(always)]
 #[tactic(auto, unfolding(crate::specs::Reading::ReadsOperand, crate::specs::Operand::operand), using(crate::proofs::Blocks::not_bare))]
 pub(crate) fn read_block<'a, P: Sink<'a>>(
@@ -75,7 +76,7 @@ pub(crate) fn read_block<'a, P: Sink<'a>>(
     }
 }
 
-/// `else` or `end`, and the label that may follow.
+/// Parses the optional label of `else` or `end`.
 #[inline(always)]
 pub(crate) fn read_label<'a, P: Sink<'a>>(
     op: LabelOp,
@@ -154,7 +155,7 @@ impl<'a> OperandOf<'a, TableOp> for TableArg<'a> {
     }
 }
 
-/// A load, a store or a wait.
+/// A load, a store, a wait or a notify.
 #[inline(always)]
 pub(crate) fn read_access<'a, P: Sink<'a>>(
     op: AccessOp,
@@ -194,7 +195,7 @@ impl<'a> OperandOf<'a, MemoryOp> for MemoryArg<'a> {
     }
 }
 
-/// A field of a structure.
+/// An access to a field of a structure.
 impl<'a> OperandOf<'a, StructOp> for StructAccess<'a> {
     ghost op_of = { λ op. ops.Struct op };
 
@@ -214,7 +215,7 @@ impl<'a> OperandOf<'a, StructOp> for StructAccess<'a> {
     }
 }
 
-/// An array, and the segment that it is filled from.
+/// `array.init_data` or `array.init_elem`.
 impl<'a> OperandOf<'a, ArrayInitOp> for ArrayInit<'a> {
     ghost op_of = { λ op. ops.ArrayInit op };
 
@@ -253,7 +254,7 @@ pub(crate) fn read_atomic_access<'a, P: Sink<'a>>(
     }
 }
 
-/// An atomic read, change and write.
+/// An atomic read-modify-write instruction.
 pub(crate) fn read_rmw_access<'a, P: Sink<'a>>(
     op: RmwAccessOp,
     parser: &mut Parser<'a>,
@@ -272,7 +273,7 @@ pub(crate) fn read_rmw_access<'a, P: Sink<'a>>(
     }
 }
 
-/// An atomic access to what an index names.
+/// An atomic access to a global or to an element of an array.
 impl<'a> OperandOf<'a, OrderedIndexOp> for Ordered<Index<'a>> {
     ghost op_of = { λ op. ops.OrderedIndex op };
 
@@ -351,7 +352,7 @@ pub(crate) fn read_lane_access<'a, P: Sink<'a>>(
     }
 }
 
-/// A lane that is taken out or replaced.
+/// A lane to extract or to replace.
 impl<'a> OperandOf<'a, LaneOp> for LaneArg {
     ghost op_of = { λ op. ops.Lane op };
 
@@ -371,7 +372,7 @@ impl<'a> OperandOf<'a, LaneOp> for LaneArg {
     }
 }
 
-/// An instruction without an operand, none of vectors.
+/// Appends an instruction without an operand that is not a vector instruction.
 #[inline(always)]
 pub(crate) fn bare_scalar<'a, P: Sink<'a>>(
     op: ScalarOp,
@@ -386,7 +387,7 @@ pub(crate) fn bare_scalar<'a, P: Sink<'a>>(
     Ok(())
 }
 
-/// An instruction without an operand, of vectors.
+/// Appends a vector instruction without an operand.
 #[inline(always)]
 pub(crate) fn bare_vector<'a, P: Sink<'a>>(
     op: VectorOp,

@@ -13,8 +13,8 @@ use wat_types::HeapType;
 /// An instruction (WebAssembly Core Specification, Text Format, "Instructions").
 ///
 /// Instructions with the same kind of operand share a variant, which holds an enumeration of their
-/// mnemonics and the operand. An instruction that has its kind of operand alone is a variant of its
-/// own, named as its mnemonic with `_` in place of `.`.
+/// mnemonics and the operand. An instruction that shares its kind of operand with no other has its
+/// own variant. The name of the variant is the mnemonic, with `_` in place of `.`.
 ///
 /// The type parameters are the types that borrow from the text: indices, identifiers and operands.
 /// [`Instruction`] is the type that the parser returns.
@@ -37,10 +37,10 @@ pub enum InstructionOf<
     BrOnCastDescEq,
     BrOnCastDescEqFail,
 > {
-    /// `block`, `loop`, `if` or `try`, and its block type; None if the block has neither a label
-    /// nor a name nor a type.
+    /// `block`, `loop`, `if` or `try`, and its block type. The block type is None if the block has
+    /// no label, no name and no type.
     Block(BlockOp, Option<Box<BlockType>>),
-    /// `else` or `end`, and the label, if one is written.
+    /// `else` or `end`, and its label, if any.
     Label(LabelOp, Option<Id>),
     /// An instruction without an operand that is not a vector instruction.
     Scalar(ScalarOp),
@@ -195,8 +195,9 @@ impl<
     BrOnCastDescEq,
     BrOnCastDescEqFail,
 > {
-    /// Returns the memory access of the operand, also that of a load or store of one lane; None if
-    /// the operand has no memory access. A write through the reference changes only the access.
+    /// Returns the memory access of the operand, including the access of a load or store of one
+    /// lane. Returns None if the operand has no memory access. A write through the reference
+    /// changes only the access.
     pub fn memarg_mut(&mut self) -> Option<&mut MemArg>
         ensures* writes_back { sem 𝓛 (LendsAccess BlockType.row Id.row Index.row CallIndirect.row
             MemArg.row SelectTypes.row HeapType.row RefTest.row RefCast.row BrOnCast.row

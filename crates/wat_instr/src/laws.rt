@@ -5,14 +5,17 @@ ghost use Rattle.wat_instr.specs.Follows.{MayFollow};
 ghost use Rattle.wat_instr.specs.Instruction.{Instr, instruction};
 ghost use Rattle.wat_tokens.specs.Token.{Tok};
 
-/// The tokens that spell an instruction don't depend on what follows, if that may follow an
-/// instruction: it begins with a mnemonic, begins with `)` or is empty, and its second token is
-/// none of the keywords `type`, `param` and `result`.
+/// The tokens that spell an instruction don't depend on the rest after them, if that rest may
+/// follow an instruction. A rest may follow if both hold:
+///
+/// - it begins with a mnemonic, begins with `)` or is empty;
+/// - its second token is not one of the keywords `type`, `param` and `result`.
 pub fn stands_before_what_may_follow()
-    // If tokens spell an instruction before one rest, they spell it before every such rest.
+    // If tokens spell an instruction before some rest, they spell it before each rest that may
+    // follow.
     ensures stands { (v : Instr) (c r s : List Tok) → instruction.spells v c r → MayFollow s
         → instruction.spells v c s }
-    // These tokens with such a rest after them are such a rest too.
+    // These tokens, with a rest after them that may follow, are also a rest that may follow.
     ensures follow { (v : Instr) (c r s : List Tok) → instruction.spells v c r → MayFollow s
         → MayFollow (c ++ s) }
 {}

@@ -1,4 +1,4 @@
-//! Operands whose parser is that of their type.
+//! Operands that the parser of their type parses.
 #![tactic(auto, unfolding(crate::specs::Reading::ReadsOperand))]
 
 ghost use Rattle.std.specs.Prelude.{◌≡◌};
@@ -12,24 +12,25 @@ use crate::instruction::Instruction;
 use crate::sink::Sink;
 use wat_tokens::{Parse, Parser, Result};
 
-/// A type that is the operand of the instructions of a `Family`; of one alone where that is `()`.
+/// The type of the operand of each instruction in `Family`. If `Family` is `()`, it is the operand
+/// of a single instruction.
 pub(crate) trait OperandOf<'a, Family>: Parse<'a> {
-    /// The instructions, without their operands.
+    /// The instruction without its operand.
     ghost op_of: { Family → Op };
 
-    /// What contracts see of an operand.
+    /// The operand as contracts see it.
     ghost seen: { Self → Operand };
 
-    /// The instruction that has this operand.
+    /// Returns the instruction with this operand.
     fn instruction(self, op: Family) -> Instruction<'a>
         ensures { instruction_view result ≡ instr_of (op_of op) (seen self) };
 
-    /// What follows the word is read as the type is.
+    /// The tokens after the mnemonic are read by the type's grammar.
     ghost is_operand: { (op : Family) → IsOperandOf (op_of op) seen Self.cost Self.view
         Self.grammar };
 }
 
-/// Takes an operand, and puts the instruction.
+/// Parses an operand, and appends the instruction to `out`.
 #[inline(always)]
 pub(crate) fn read_as<'a, Family: Copy, T: OperandOf<'a, Family>, P: Sink<'a>>(
     op: Family,
@@ -49,7 +50,7 @@ pub(crate) fn read_as<'a, Family: Copy, T: OperandOf<'a, Family>, P: Sink<'a>>(
     }
 }
 
-/// The same, for instructions that are seldom: their code needn't stand where it is called.
+/// Calls `read_as` without inlining, for rare instructions.
 pub(crate) fn read_apart<'a, Family: Copy, T: OperandOf<'a, Family>, P: Sink<'a>>(
     op: Family,
     parser: &mut Parser<'a>,

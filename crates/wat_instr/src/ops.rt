@@ -114,8 +114,8 @@ impl Instruction<'_> {
     /// Specification 2.0, "Index of Instructions"). If the instruction has an operand or isn't in
     /// that version, it appends nothing and returns None.
     ///
-    /// The error is Memory, if `out` can't grow; then nothing was appended. It never fails if there
-    /// is nothing to append.
+    /// The only error is Memory: `out` can't grow. Then nothing was appended. If there is nothing
+    /// to append, the call never fails.
     pub fn write_opcode(&self, out: &mut Vec<u8>) -> Result<Option<usize>>
         ensures { Appends (bytes (op_opcode (op_in self.now))) out.old.items out.new.items
             result }
@@ -138,8 +138,8 @@ impl Instruction<'_> {
     }
 }
 
-/// Returns whether the instruction is `block`, `loop` or `try_table`. Folded, its group holds the
-/// instructions of the block.
+/// Returns whether the instruction is `block`, `loop` or `try_table`. In folded form, the group of
+/// such an instruction holds the instructions of the block.
 #[inline(always)]
 #[tactic(auto, using(crate::proofs::RowFamilies::block_rows))]
 pub fn is_block(op: Op) -> bool

@@ -30,8 +30,8 @@ impl<'a> Instruction<'a> {
     /// Parses the operand of an instruction after its mnemonic, and appends the instruction to
     /// `out`, which has room for it.
     ///
-    /// The error is the first one in the operand. It can be Memory only if the operand owns memory:
-    /// a box, or a list that isn't empty. After an error, `out` is as it was.
+    /// The error is the first error in the operand. Memory is possible only if the operand owns
+    /// memory: a box, or a list that isn't empty. After an error, `out` is unchanged.
     #[inline(always)]
     pub fn read_operand<P: Sink<'a>>(op: Op, parser: &mut Parser<'a>, out: &mut P) -> Result<()>
         requires { P.has_room out.old }
@@ -96,10 +96,10 @@ impl<'a> Instruction<'a> {
     }
 }
 
-/// A mnemonic, and then the operand.
+/// Parses a mnemonic, and then the operand.
 ///
-/// The error is Operator, at the next token, if that is not a mnemonic; otherwise the first error
-/// of the operand.
+/// If the next token is not a mnemonic, the error is Operator at that token. Otherwise the error is
+/// the first error in the operand.
 impl<'a> Parse<'a> for Instruction<'a> {
     ghost View = { Instr };
 
@@ -111,10 +111,10 @@ impl<'a> Parse<'a> for Instruction<'a> {
 
     #[tactic(auto, unfolding(crate::specs::Reading::ReadsOperand, crate::specs::Instruction::instruction))]
     fn parse(parser: &mut Parser<'a>) -> Result<Self>
-        // It counts no turn and no height.
+        // The call counts no turn and no height.
         ensures reads { ReadsAt words_too (owning instruction_view bare_instruction) instruction
             result parser.old parser.new }
-        // It makes at most ten comparisons of mnemonics, and at least one if a keyword is next.
+        // The call compares at most ten mnemonics, and at least one if a keyword is next.
         ensures probes { AtMostTen parser.old parser.new }
         ensures probed { (w : List ℕ) (r : List Tok) → parser.old.left ≡ Keyword w ∷ r
             → parser.old.probes + 1 ≤ parser.new.probes }

@@ -1,4 +1,4 @@
-//! Operands of instructions that have their kind of operand alone.
+//! Operands of instructions that don't share their kind of operand.
 
 ghost use Rattle.std.specs.Prelude.{Some, None, refl};
 ghost use Rattle.wat_instr.specs.Instruction.{operand_in};
@@ -378,7 +378,7 @@ impl<'a> OperandOf<'a, ()> for i64 {
     }
 }
 
-/// `f32.const`; no literal is read.
+/// `f32.const`. Every float literal is an error.
 impl<'a> OperandOf<'a, ()> for F32 {
     ghost op_of = { λ _. ops.f32_const };
 
@@ -398,7 +398,7 @@ impl<'a> OperandOf<'a, ()> for F32 {
     }
 }
 
-/// `f64.const`; no literal is read.
+/// `f64.const`. Every float literal is an error.
 impl<'a> OperandOf<'a, ()> for F64 {
     ghost op_of = { λ _. ops.f64_const };
 

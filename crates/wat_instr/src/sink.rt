@@ -14,7 +14,7 @@ pub trait Sink<'a> {
     /// The instructions in the destination, in order.
     ghost seen: { Self → List Instr };
 
-    /// There is room for one more instruction.
+    /// The destination has room for one more instruction.
     ghost has_room: { Self → Type 0 };
 
     /// Appends an instruction.

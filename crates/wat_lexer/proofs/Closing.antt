@@ -1,4 +1,4 @@
--- Where groups end, found from the right, and how far each hidden one skips.
+-- The ends of groups, found from the right, and the skips of hidden groups.
 use Rattle.std.specs.Cmp.{first_so}
 use Rattle.std.proofs.Common.{◌≡◌, ℕ, zero, suc, ◌+◌, ◌-◌, ◌<◌, ◌≤◌, List, [], ◌∷◌, ◌++◌, length, drop, get_or, refl, ap, sym, ◌∙◌, arith, add-one, append-nil, length-drop}
 use Rattle.std.specs.Prelude.{Bool, true, false, if◌then◌else◌, Option, Some, None, slice_get, IsSome, MatchOption, ◌↔◌, option_to_list, reverse, ◌&&◌, not}
@@ -15,7 +15,7 @@ use Rattle.wat_lexer.specs.Laws.Hidden.{begins_hidden_not_open}
 use Rattle.wat_lexer.specs.Laws.Kinds.{open_is, close_is, tokens_of-placed}
 use Rattle.wat_lexer.proofs.Skips.{skips_later}
 
--- where only skips were told, the tokens are the same
+-- if only skips were stored, the tokens are the same
 toks_at : (ls before : List Entry) (i : ℕ) → placed ls ≡ placed before → toks (drop i ls) ≡ drop i (tokens_of (placed before))
 toks_at ls before i e = rw (← e, tokens_of-placed ls, drop-map entry_tok i ls)
 
@@ -24,12 +24,12 @@ placed_length ls before e = omega (arith, ap length e, length-map ls placed_of, 
 
 -- GROUPS
 
--- what follows a group, or nothing where it isn't closed
+-- the tokens after a group, or no tokens if the group isn't closed
 abbrev pub left : Option (List Tok) → List Tok
 left None = []
 left (Some q) = q
 
--- what is hidden of an annotation's group, from a place within it on
+-- the number of hidden tokens of an annotation group, from a place within the group on
 hidden_count_within : (known : Bool) (r : List Tok) (depth : ℕ) → hidden_count_at known (Some depth) r + length (left (behind_group depth r)) ≡ length r + hidden_count known (left (behind_group depth r))
 unfolding behind_group hidden_count_at hidden_count
 hidden_count_within known [] depth = refl
@@ -39,9 +39,9 @@ group_counts : (known : Bool) (ts : List Tok) (i end : ℕ) (x : Tok) → i < en
 unfolding hidden_count hidden_count_at
 group_counts known ts i end x lt le front e h = rw (front, rw front at h) (omega (arith, rw e at (hidden_count_within known (drop (i + 1) ts) 0), length-drop (i + 1) ts, length-drop end ts))
 
--- LEAPS
+-- SKIPS
 
--- what is hidden where the five names are known is hidden where none is
+-- a group that is hidden if the five names are known is also hidden if no name is known
 hidden_anyway : (known : Bool) (t : List Tok) → begins_hidden_group known t ≡ true → begins_hidden_group false t ≡ true
 hidden_anyway known t h = rw (first_so (begins_annotation_group t) (not (known && is_standard (annotation_name t))) h)
 
@@ -52,22 +52,22 @@ begins_hidden_is (LParen ∷ []) h = cc
 begins_hidden_is (LParen ∷ _ ∷ r) h = cc
 begins_hidden_is (_ ∷ r) h = cc
 
--- skips are told from a place on, where they are told behind it and there
+-- skips are right from a place on, if they are right at the place and after it
 skips_cons : (x : Entry) (ls : List Entry) → AreSkips ls → ((known : Bool) → begins_hidden_group known (toks (x ∷ ls)) ≡ true → skip_in_front known (x ∷ ls) ≡ hidden_count known (toks (x ∷ ls))) → AreSkips (x ∷ ls)
 skips_cons x ls behind here known zero = here known
 skips_cons x ls behind here known (suc j) = behind known j
 
--- where no group is hidden, nothing is to be told
+-- if no hidden group is at a place, no skip is needed there
 skips_past : (x : Entry) (ls : List Entry) → AreSkips ls → begins_hidden_group false (toks (x ∷ ls)) ≡ false → AreSkips (x ∷ ls)
 skips_past x ls behind none = skips_cons x ls behind (λ known h. let f = hidden_anyway known (toks (x ∷ ls)) h in cc)
 
--- behind the first token of an annotation's group no group begins
+-- no hidden group begins at the second token of an annotation group
 second : (a b : Tok) (r : List Tok) → begins_hidden_group false (a ∷ b ∷ r) ≡ true → begins_hidden_group false (b ∷ r) ≡ false
 second LParen (Annotation n) r h = refl
 second LParen _ r h = cc
 second _ b r h = cc
 
--- what was told at a group's annotation is right
+-- the skip that was stored with a group's annotation is right
 told : (x y : Entry) (ls : List Entry) → AreSkips ls → begins_hidden_group false (toks (x ∷ y ∷ ls)) ≡ true → ((known : Bool) → begins_hidden_group known (toks (x ∷ y ∷ ls)) ≡ true → skip known y.skips ≡ hidden_count known (toks (x ∷ y ∷ ls))) → AreSkips (x ∷ y ∷ ls)
 told x y ls behind begins right = skips_cons x (y ∷ ls) (skips_past y ls behind (second (entry_tok x) (entry_tok y) (toks ls) begins)) right
 
@@ -115,7 +115,7 @@ at_top stack k = slice_get (reverse stack) k
 top_push : (stack : List ℕ) (x : ℕ) → reverse (stack ++ x ∷ []) ≡ x ∷ reverse stack
 top_push stack x = reverse-append stack (x ∷ [])
 
--- what the stack is behind the pop at a `(`
+-- the stack after the pop at a `(`
 pub record Popped (stack rest : List ℕ) (end : Option ℕ) : Type 0 where
   pub top : at_top stack 0 ≡ end
   pub below : (k : ℕ) → at_top stack (suc k) ≡ at_top rest k
@@ -128,18 +128,18 @@ split stack rest (Some x) e some = record { top = rw (e, top_push rest x); below
 pub popped : {size : ℕ} {stack rest : List ℕ} {end found : Option ℕ} → stack ≡ rest ++ option_to_list end → (IsSome end ↔ (0 < size)) → size ≡ length stack → end ≡ found → Popped stack rest found
 popped {stack} {rest} {end} e some all is = rw is at (split stack rest end e (rw all at some))
 
--- the first group from the place on that isn't closed, by its offset
+-- the offset of the first group from the place on that isn't closed
 abbrev pub FirstFrom : List Placed → ℕ → Option ℕ → Type 0
 FirstFrom ps i None = (j : ℕ) → i ≤ j → Unclosed (tokens_of ps) j → ⊥
 FirstFrom ps i (Some offset) = (j : ℕ) × (t : Placed) × (i ≤ j) × (slice_get ps j ≡ Some t) × (offset ≡ t.offset) × Unclosed (tokens_of ps) j × ((k : ℕ) → i ≤ k → k < j → Unclosed (tokens_of ps) k → ⊥)
 
--- where the group closes, from the place on, in which k more lie open
+-- the end of the group in which k more groups are open, from the place on
 abbrev pub ClosesAt : List Entry → ℕ → ℕ → Option ℕ → Type 0
 ClosesAt before i k None = behind_group k (drop i (tokens_of (placed before))) ≡ None
 ClosesAt before i k (Some e) = (behind_group k (drop i (tokens_of (placed before))) ≡ Some (drop e (tokens_of (placed before)))) × (i < e) × (e ≤ length before)
 
--- From the place on: where each group ends, by the stack; the skips; the first group that isn't
--- closed.
+-- From the place on: the stack has the end of each group, the skips are right, and `first` is the
+-- first group that isn't closed.
 pub record SkipsSoFar (before : List Entry) (i : ℕ) (ls : List Entry) (stack : List ℕ) (first : Option ℕ) : Type 0 where
   pub same : placed ls ≡ placed before
   pub within : i ≤ length ls
@@ -171,11 +171,11 @@ group_other k (Integer n) ts h e = refl
 group_other k (String n) ts h e = refl
 group_other k (Reserved n) ts h e = refl
 
--- a group that isn't closed is hidden
+-- if no hidden group is at the index, no group that isn't closed is there
 not_unclosed : (ts : List Tok) (i : ℕ) → begins_hidden_group false (drop i ts) ≡ false → Unclosed ts i → ⊥
 not_unclosed ts i none (n, r, e, k) = absurd (let f : true ≡ false = ap (begins_hidden_group false) (sym e) ∙ none in cc)
 
--- at the place, or behind it
+-- at the place, or after it
 past : (P : ℕ → Type 0) (i j : ℕ) → i ≤ j → (P i → ⊥) → (i + 1 ≤ j → P j → ⊥) → P j → ⊥
 past P i j le here behind p = grind arith
 
@@ -195,7 +195,7 @@ nothing_yet ls =
       unclosed = λ j le. not_unclosed (tokens_of (placed ls)) j (rw (over j le));
     }
 
--- the place in front of those passed
+-- the place before those that were passed
 module _ {before ls : List Entry} {j : ℕ} {stack : List ℕ} {first : Option ℕ} (i : ℕ) (so : SkipsSoFar before j ls stack first) (back : j ≡ i + 1) where
   abbrev ts : List Tok
   ts = tokens_of (placed before)
@@ -212,7 +212,7 @@ module _ {before ls : List Entry} {j : ℕ} {stack : List ℕ} {first : Option �
   front : drop i ts ≡ tok ∷ drop (i + 1) ts
   front = rw (← toks_at ls before i so.same, drop_more ls i no_entry within.0) (ap (λ l. tok ∷ l) (toks_at ls before (i + 1) so.same))
 
-  -- where no group is hidden at a place, skips and faults stay
+  -- if no hidden group is at a place, the skips and the first group that isn't closed stay
   stays : begins_hidden_group false (drop i ts) ≡ false → AreSkips (drop i ls) × FirstFrom (placed before) i first
   stays none =
       let more = drop_more ls i no_entry within.0 in (
@@ -266,7 +266,7 @@ module _ {before ls : List Entry} {j : ℕ} {stack : List ℕ} {first : Option �
       let none : drop (length ls) ls ≡ [] = drop_of_length-le ls (omega arith) in
       counts pop (length ls) within.0 (omega arith) (rw (behind pop, ← toks_at ls before (length ls) so.same, none))
 
-  -- a group with an annotation: what is behind its `(`
+  -- the tokens after the `(` of a group with an annotation
   behind_name : (n : List ℕ) (r : List Tok) → drop i ts ≡ LParen ∷ (Annotation n ∷ r) → behind_group 0 (drop (i + 1) ts) ≡ behind_group 0 r
   unfolding behind_group
   behind_name n r e = let tail : drop (i + 1) ts ≡ Annotation n ∷ r = cc front in rw tail
@@ -279,7 +279,7 @@ module _ {before ls : List Entry} {j : ℕ} {stack : List ℕ} {first : Option �
       let (n, r, e) = begins_hidden_is (drop i ts) (rw (toks_at ls before i so.same) at begins) in
       opening pop new opens same skips (i, placed_of (get_or ls i no_entry), omega arith, rw (← so.same, slice_get-map placed_of ls i, slice_get-get_or ls i no_entry within.0), refl, (n, r, e, sym (behind_name n r e) ∙ behind pop), λ k from less v. absurd (omega arith))
 
--- at the start the first group that isn't closed is found
+-- at the start of the text the first group that isn't closed is found
 pub first_from : (ps : List Placed) (first : Option ℕ) → FirstFrom ps 0 first → MatchOption first (Closed (tokens_of ps)) (FirstUnclosed ps)
 first_from ps None closed = λ j. closed j (omega arith)
 first_from ps (Some offset) (j, t, le, here, at, u, before) = (j, t, here, at, u, λ k. before k (omega arith))

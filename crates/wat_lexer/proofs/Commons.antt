@@ -1,4 +1,4 @@
--- Tokens that are told by their first byte and by where their bytes end.
+-- Common tokens, by their first byte and the end of their bytes.
 use Rattle.std.proofs.Common.{◌≡◌, ℕ, zero, suc, ◌+◌, ◌-◌, ◌*◌, ◌<◌, ◌≤◌, List, [], ◌∷◌, length, drop, get_or, refl, ap, sym, ◌∙◌, arith, inl, inr, append-nil, length-take, length-drop}
 use Rattle.std.specs.Prelude.{Bool, true, false, ◌⊎◌, slice_range, ◌==◌, not, Some, is_some, nat_lt, IsTrue}
 use Rattle.std.proofs.Math.ListN.{drop_of_length-le}
@@ -23,7 +23,7 @@ use Rattle.wat_lexer.proofs.Steps.{at_front, run_over, run_quote, slice_none, st
 use Rattle.wat_lexer.proofs.Tables.{Below, below_none, below_more, below_joined}
 use Rattle.wat_lexer.proofs.Whole.{class_string}
 
--- WHERE A RUN ENDS
+-- THE END OF A RUN
 
 pub stops_here : (i : ℕ) (s : List ℕ) → (i < length s → in_no_run (get_or s i 0) ≡ true) → behind_run Between (drop i s) ≡ Ends (drop i s)
 stops_here i s stops = elim (cases_lt i (length s)) [
@@ -31,7 +31,7 @@ stops_here i s stops = elim (cases_lt i (length s)) [
   | inr g ↦ run_over i s g
 ]
 
--- behind all idchars, where no string begins
+-- after all idchars, if no string begins there
 pub word_stops : (i : ℕ) (s : List ℕ) → (i < length s → is_idchar (get_or s i 0) ≡ false) → begins 34 (drop i s) ≡ false → behind_run Between (drop i s) ≡ Ends (drop i s)
 word_stops i s stops quote = stops_here i s (λ l.
     let no_idchar = stops l in
@@ -53,7 +53,7 @@ digit_idchar b h = grind (arith, nat_tests)
 digit_low : (b : ℕ) → between 48 57 b ≡ true → nat_lt (digit_value b) 10 ≡ true
 digit_low b h = grind (arith, nat_tests)
 
--- behind a digit all digits of the base are read
+-- after a digit, all digits of the base are read
 digits_read : (base d i end n : ℕ) (s : List ℕ) → i + d ≡ end → end ≤ length s → Below (λ k. nat_lt (digit_value (get_or s k 0)) base ≡ true) i end → is_some (read base true n (slice_range s i end)) ≡ true
 unfolding read
 digits_read base zero i end n s e within below = let same : end ≡ i = omega arith in rw (same, slice_none i s)
@@ -109,7 +109,7 @@ hex_integer at end s order within first_is second_is below =
     rw (first, second, third, below (at + 2) order (omega arith))
     (digits_read 16 (end - (at + 3)) (at + 3) end (0 * 16 + digit_value here) s (omega arith) within (λ k lt le. below k lt (omega arith)))
 
--- WHAT IS IN FRONT
+-- TOKENS IN FRONT
 
 token_here : (behind : Bool) (at end : ℕ) (s : List ℕ) → at < end → end ≤ length s → (is_idchar (get_or s at 0) ≡ true) ⊎ (get_or s at 0 ≡ 34) → behind_run Between (drop at s) ≡ Ends (drop end s) → front behind (drop at s) ≡ TokenTo (class behind (slice_range s at end)) (drop end s)
 token_here behind at end s order within first run =

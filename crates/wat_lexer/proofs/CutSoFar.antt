@@ -1,4 +1,4 @@
--- The invariant of the cut: what was cut, and what the rest may still be.
+-- The invariant of the cut: the tokens so far, and the cuts of the rest.
 use Rattle.std.proofs.Common.{◌≡◌, ℕ, suc, ◌-◌, ◌<◌, ◌≤◌, List, [], ◌∷◌, ◌++◌, length, drop, refl, ap, subst, ◌∙◌, arith, sym, inl, inr, append_assoc, append-nil, length-drop}
 use Rattle.std.specs.Prelude.{Bool, true, false, ◌||◌, ◌&&◌, ◌==◌, nat_lt, if◌then◌else◌}
 use Rattle.std.proofs.lemmas.Bool.{cases_Bool}
@@ -17,7 +17,8 @@ use Rattle.wat_lexer.proofs.Entries.{has_more}
 use Rattle.wat_lexer.specs.Laws.Strings.{if_either}
 use Rattle.wat_lexer.specs.Laws.Fronts.{cut_front, front_cut, front_fails}
 
--- the text's cuts are the tokens so far with the cuts of the rest, and where the rest fails the text fails
+-- the text's cuts are the tokens so far with the cuts of the rest; if the rest fails, the text
+-- fails
 pub record CutSoFar (text : List ℕ) (ts : List Placed) (behind : Bool) (rest : List ℕ) : Type 0 where
   pub sound : (us : List Placed) → Cuts (length text) behind rest us → Cuts (length text) false text (ts ++ us)
   pub complete : (vs : List Placed) → Cuts (length text) false text vs → (us : List Placed) × (vs ≡ ts ++ us) × Cuts (length text) behind rest us
@@ -42,7 +43,7 @@ unfolding behind_spaces
 spaces_fewer [] = omega arith
 spaces_fewer (b ∷ t) = if_either (λ s. length s ≤ suc (length t)) (is_space b) (behind_spaces t) (b ∷ t) (λ _. omega (arith, spaces_fewer t)) (λ _. omega arith)
 
--- spaces in front are blanks, as many as are there
+-- all spaces in front are blanks
 spaces : {text : List ℕ} {ts : List Placed} {behind : Bool} (rest : List ℕ) → CutSoFar text ts behind rest → CutSoFar text ts (behind && (length (behind_spaces rest) == length rest)) (behind_spaces rest)
 unfolding behind_spaces
 spaces {behind = behind} [] so = rw (and-true behind) so
@@ -59,7 +60,7 @@ over_spaces {text} {ts} {behind} end next h k e so =
     let same : (next == end) ≡ (length (behind_spaces (drop end text)) == length (drop end text)) = grind (arith, nat_tests, length-drop end text, length-drop next text, sym e) in
     rw (same, e) (spaces (drop end text) so)
 
--- whether a `(` is directly before the next piece, by where the last one ends
+-- whether a `(` is directly before the next piece, by the end of the last `(`
 opened_next : (opens : Bool) (opened at end next : ℕ) → opened ≤ at → at < end → end ≤ next → (opens && (next == end)) ≡ ((next == (if opens then end else opened)) && nat_lt 0 next)
 opened_next true opened at end next far order spaces = grind (arith, nat_tests)
 opened_next false opened at end next far order spaces = grind (arith, nat_tests)
@@ -82,7 +83,7 @@ over_token {text} {rest} {next} {ts} {t} offset so e place = record {
 pub at_end : {text rest : List ℕ} {ts : List Placed} {behind : Bool} → CutSoFar text ts behind rest → rest ≡ [] → Cuts (length text) false text ts
 at_end {text} {ts = ts} {behind} so e = rw append-nil at (so.sound [] (rw e (done (length text) behind)))
 
--- the fault that is met there is where the text fails
+-- an error where no piece begins is the fault of the text
 pub fault_here : (text : List ℕ) (at : ℕ) (ts : List Placed) (behind : Bool) (e : Error) → CutSoFar text ts behind (drop at text) → IfFault e (WrongIs text e (front behind (drop at text))) → IfFault e (FailsAt text e)
 fault_here text at ts behind e so h = λ no_memory.
     let (wrong, within) = h no_memory in

@@ -1,4 +1,4 @@
--- What is kept of the tokens, as lookups see them.
+-- Stored tokens, as lookups see them.
 use Rattle.std.proofs.Common.{◌≡◌, ℕ, zero, suc, ◌+◌, ◌<◌, ◌≤◌, List, [], ◌∷◌, ◌++◌, length, refl, ap, sym, subst, ◌∙◌, append-nil, ◌-◌, arith, drop}
 use Rattle.std.specs.Prelude.{◌≢◌, Bool, true, false, ◌||◌}
 use Rattle.std.specs.List.{AllByRecursion}
@@ -15,7 +15,7 @@ use Rattle.wat_lexer.specs.declared.lexeme.Kind.TheVariants as kinds
 use Rattle.wat_lexer.specs.declared.lexeme.Skips.{Skips}
 use Rattle.wat_lexer.specs.declared.lexeme.Lexeme.{Lexeme}
 
--- LEAPS ARE TOLD
+-- SKIPS ARE STORED
 
 annotation_skips : (kind : Kind) (a : Skips) → is_annotation_kind kind ≡ true → skips_of kind a ≡ a
 annotation_skips kinds.Annotation a is = refl
@@ -25,14 +25,14 @@ skips_at : (kind : Kind) (a b : Skips) → (is_annotation_kind kind ≡ true →
 skips_at kinds.Annotation a b h = h refl
 skips_at _ a b h = refl
 
--- an annotation's skips are told there
+-- the skips of an annotation are stored at its number
 told_here : (text : List ℕ) (side_table : List Placed) (told : List Skips) (skips : Skips) (x : Lexeme) → is_annotation_kind x.kind ≡ true → own_number x < length told → entry_of text side_table (set told (own_number x) skips) x ≡ record (entry_of text side_table told x) { skips = skips }
 told_here text side_table told skips x is lt =
     let n = own_number x in
     let here : skips_of x.kind (lying_skips (set told n skips) n) ≡ skips = annotation_skips x.kind (lying_skips (set told n skips) n) is ∙ get_or-set_same told n skips no_skips lt in
     λ i. record (entry_of text side_table told x) { skips = here i }
 
--- and no others
+-- the skips of other tokens stay
 told_elsewhere : (text : List ℕ) (side_table : List Placed) (told : List Skips) (n : ℕ) (skips : Skips) (x : Lexeme) → (is_annotation_kind x.kind ≡ true → own_number x ≢ n) → entry_of text side_table (set told n skips) x ≡ entry_of text side_table told x
 told_elsewhere text side_table told n skips x other =
     let m = own_number x in
@@ -62,7 +62,7 @@ skips_told text side_table told (y ∷ ls) (suc i) skips x d lt e (here, apart) 
     let rest = skips_told text side_table told ls i skips x d (omega arith) e apart is within in
     λ i. first i ∷ rest i
 
--- where no skips are told it is as if there were no room for any
+-- if all stored skips are zero, the entries are the same as without a list of skips
 pub untold : (text : List ℕ) (side_table : List Placed) (told : List Skips) (ls : List Lexeme) → ((i : ℕ) → lying_skips told i ≡ no_skips) → entries_of text side_table told ls ≡ entries_of text side_table [] ls
 untold text side_table told [] none = refl
 untold text side_table told (x ∷ ls) none =
@@ -70,19 +70,19 @@ untold text side_table told (x ∷ ls) none =
     let rest = untold text side_table told ls none in
     λ i. record (entry_of text side_table [] x) { skips = here i } ∷ rest i
 
--- what is put into the side table at once is one token at most
+-- at most one token is put into the side table at once
 pub put_few : (kind : Kind) (old new : List Placed) → PutInSideTable kind old new → length new ≤ length old + 1
 put_few kinds.Annotation old new (t, e) = omega (arith, ap length e, length-append old (t ∷ []))
 put_few kinds.InSideTable old new (t, e) = omega (arith, ap length e, length-append old (t ∷ []))
 put_few _ old new e = omega (arith, ap length e)
 
--- what is an annotation is so by its kind
+-- a token that is an annotation has the kind of an annotation
 annotation_kind : (kind : Kind) (text : List ℕ) (from end : ℕ) (P : Type 0) (other : Tok) → Readable kind text from end P other → is_annotation (tok_at kind text from end other) ≡ true → is_annotation_kind kind ≡ true
 annotation_kind kinds.Annotation text from end P other h e = refl
 annotation_kind kinds.InSideTable text from end P other h e = absurd (let f : true ≡ false = sym e ∙ h.1 in cc)
 annotation_kind _ text from end P other h e = cc
 
--- and lies in the side table
+-- a token with the kind of an annotation is in the side table
 annotation_lies : (kind : Kind) (text : List ℕ) (from end : ℕ) {P : Type 0} (other : Tok) → Readable kind text from end P other → is_annotation_kind kind ≡ true → P × (is_annotation other ≡ true)
 annotation_lies kinds.Annotation text from end other h is = h
 annotation_lies _ text from end other h is = cc
@@ -102,7 +102,7 @@ annotation_number x is = annotation_wide x.kind x.low x.size is
 readable_there : (text : List ℕ) (side_table : List Placed) (ls : List Lexeme) (i : ℕ) (x d : Lexeme) → i < length ls → get_or ls i d ≡ x → AllCanBeRead text side_table ls → CanBeRead text side_table x
 readable_there text side_table ls i x d lt e all = subst (CanBeRead text side_table) e (All-get_or (CanBeRead text side_table) ls i d lt (All-from_recursion (CanBeRead text side_table) ls all))
 
--- there is room for its skips
+-- there is room for the skips of an annotation
 pub annotation_room : (text : List ℕ) (side_table : List Placed) (told : List Skips) (ls : List Lexeme) (i : ℕ) (x d : Lexeme) → i < length ls → get_or ls i d ≡ x → AllCanBeRead text side_table ls → HasSkips side_table told → is_annotation_kind x.kind ≡ true → own_number x < length told
 annotation_room text side_table told ls i x d lt e all room is =
     let n = own_number x in
@@ -115,21 +115,21 @@ annotation_there text side_table told ls i x d lt e all is =
     let here : get_or (entries_of text side_table told ls) i no_entry ≡ entry_of text side_table told x = rw (get_or-map (entry_of text side_table told) ls i d no_entry lt, e) in
     annotation_kind x.kind text n (n + x.size) _ (lies side_table n) (readable_there text side_table ls i x d lt e all) (rw here at is)
 
--- what its entry tells lies at its number
+-- the skips of an annotation's entry are stored at its number
 pub annotation_told : (text : List ℕ) (side_table : List Placed) (told : List Skips) (ls : List Lexeme) (i n : ℕ) (skips : Skips) (x d : Lexeme) → i < length ls → get_or ls i d ≡ x → is_annotation_kind x.kind ≡ true → n ≡ own_number x → n < length told → skips ≡ get_or told n skips → skips ≡ (get_or (entries_of text side_table told ls) i no_entry).skips
 annotation_told text side_table told ls i n skips x d lt e is number room here =
     let there : get_or (entries_of text side_table told ls) i no_entry ≡ entry_of text side_table told x = rw (get_or-map (entry_of text side_table told) ls i d no_entry lt, e) in
     here ∙ get_or_default told n skips no_skips room ∙ ap (lying_skips told) number ∙ sym (annotation_skips x.kind (lying_skips told (own_number x)) is) ∙ ap (λ (a : Entry). a.skips) (sym there)
 
--- where fewer than two tokens are left, none skips
+-- if fewer than two tokens are left, the skip is 0
 pub skip_few : (known : Bool) (ls : List Entry) → length ls ≤ 1 → skip_in_front known ls ≡ 0
 skip_few known [] h = refl
 skip_few known (x ∷ []) h = refl
 skip_few known (x ∷ y ∷ ls) h = absurd (omega arith)
 
--- WHAT WAS KEPT STAYS
+-- STORED TOKENS STAY
 
--- what a kind reads of what lies in the side table, where that is the same
+-- the token that a kind reads from the side table, if the item there is the same
 still : (kind : Kind) (text : List ℕ) (from end own : ℕ) {P Q : Type 0} (s t : Tok) (i j : ℕ) → (P → Q × (s ≡ t) × (i ≡ j)) → Readable kind text from end P t
     → Readable kind text from end Q s × (tok_at kind text from end s ≡ tok_at kind text from end t) × (stands_at kind own i ≡ stands_at kind own j)
 still kinds.Annotation text from end own s t i j more (h, note) = let (there, same, place) = more h in ((there, rw same note), same, place)
@@ -160,7 +160,7 @@ annotation_within : (text : List ℕ) (side_table : List Placed) (low size : ℕ
 annotation_within text side_table low size kinds.Annotation is h = h.0.0
 annotation_within text side_table low size _ is h = cc
 
--- an annotation that lies behind all others lies apart from them
+-- an annotation after the end of the old side table is apart from all others
 apart_behind : (text : List ℕ) (old : List Placed) (ls : List Lexeme) (x : Lexeme) → AllCanBeRead text old ls → (is_annotation_kind x.kind ≡ true → length old ≤ own_number x) → AllByRecursion (λ y. Apart y x) ls
 apart_behind text old [] x h far = tt
 apart_behind text old (y ∷ ls) x (h, t) far = (λ is too. let lt = annotation_within text old y.low y.size y.kind is h in let le = far too in λ same. absurd (omega (arith, same)), apart_behind text old ls x t far)
@@ -169,7 +169,7 @@ apart_more : (ls : List Lexeme) (x : Lexeme) → AllApart ls → AllByRecursion 
 apart_more [] x all behind = (tt, tt)
 apart_more (y ∷ ls) x (here, all) (last, behind) = (all_push (Apart y) ls x here last, apart_more ls x all behind)
 
--- one more is kept
+-- one more token is stored
 pub record KeptMore (text : List ℕ) (old new : List Placed) (ls more : List Lexeme) (e : Entry) : Type 0 where
   pub fit : AllCanBeRead text new more
   pub apart : AllApart more
@@ -193,9 +193,9 @@ kept_more {text} {old} {new} {ls} {more} {at} {end} {kind} {x} all apart put kep
       entries = rw (is, map-append (entry_of text new []) ls (x ∷ []), kept.entry) (ap (λ l. l ++ e ∷ []) (rw longer same));
     }
 
--- WHAT IS FOUND
+-- FOUND TOKENS
 
--- the last that lies in the side table is the one that was put there
+-- the last item of the side table is the token that was put there
 pub last_put : (old new : List Placed) (t : Placed) → new ≡ old ++ t ∷ [] → (0 < length new) × (last_in_side_table new ≡ t.token) × (lies_from new (length new - 1) ≡ t.offset)
 last_put old new t e =
     let longer : length new ≡ length old + 1 = omega (arith, ap length e, length-append old (t ∷ [])) in
@@ -203,7 +203,7 @@ last_put old new t e =
     let here : get_or new (length new - 1) no_side_entry ≡ t = rw (place, e, get_or-append_seam) in
     (omega arith, ap (λ (a : Placed). a.token) here, ap (λ (a : Placed). a.offset) here)
 
--- one token more is an annotation, or one was among those before
+-- with one more token, the list has an annotation if the token is an annotation or the list had any
 pub has_more : (ts : List Tok) (t : Tok) → has_annotation (ts ++ t ∷ []) ≡ has_annotation ts || is_annotation t
 has_more [] t = or-false (is_annotation t)
 has_more (x ∷ ts) t = rw (has_more ts t, or_assoc)
@@ -211,7 +211,7 @@ has_more (x ∷ ts) t = rw (has_more ts t, or_assoc)
 lying_more : (old new : List Placed) (t : Placed) → new ≡ old ++ t ∷ [] → has_annotation (lying new) ≡ has_annotation (lying old) || is_annotation (last_in_side_table new)
 lying_more old new t e = rw ((last_put old new t e).1, e, map-append (λ (a : Placed). a.token) old (t ∷ [])) (has_more (lying old) (t.token))
 
--- only what is put into the side table can be an annotation
+-- only a token in the side table can be an annotation
 pub any_put : (kind : Kind) (text : List ℕ) (old new : List Placed) (at end : ℕ) → PutInSideTable kind old new → has_annotation (lying new) ≡ has_annotation (lying old) || is_annotation (found_tok text new at end kind)
 any_put kinds.Annotation text old new at end (t, e) = lying_more old new t e
 any_put kinds.InSideTable text old new at end (t, e) = lying_more old new t e
@@ -225,13 +225,13 @@ any_over s i le = rw (drop_of_length-le s le)
 
 pub ruleset annotation_steps = (any_step, any_over)
 
--- a token that is read out of the text is put nowhere
+-- a token that is read from the text isn't put into the side table
 pub plain_found : (kind : Kind) (text : List ℕ) (side_table : List Placed) (at end : ℕ) (P : Type 0) (n : List ℕ) (t : Tok) → is_annotation_kind kind ≡ false → Readable kind text at end P (Annotation n) → tok_at kind text at end (Annotation n) ≡ t → (t ≡ found_tok text side_table at end kind) × FoundFits text side_table at end kind × PutInSideTable kind side_table side_table
 plain_found kinds.Annotation text side_table at end P n t plain h e = cc
 plain_found kinds.InSideTable text side_table at end P n t plain (there, note) e = cc
 plain_found _ text side_table at end P n t plain h e = (sym e, h, refl)
 
--- a word is no paren
+-- a word isn't a paren
 pub word_no_paren : (kind : Kind) (text : List ℕ) (from end : ℕ) (other : Tok) → is_word kind ≡ true → is_paren (tok_at kind text from end other) ≡ false
 word_no_paren kinds.LParen text from end other a_word = cc
 word_no_paren kinds.RParen text from end other a_word = cc
@@ -239,7 +239,7 @@ word_no_paren kinds.Annotation text from end other a_word = cc
 word_no_paren kinds.InSideTable text from end other a_word = cc
 word_no_paren _ text from end other a_word = refl
 
--- a word is put nowhere
+-- a word isn't put into the side table
 pub word_nowhere : (kind : Kind) (old new : List Placed) → is_word kind ≡ true → PutInSideTable kind old new → new ≡ old
 word_nowhere kinds.LParen old new a_word e = cc
 word_nowhere kinds.RParen old new a_word e = cc
@@ -247,7 +247,7 @@ word_nowhere kinds.Annotation old new a_word e = cc
 word_nowhere kinds.InSideTable old new a_word e = cc
 word_nowhere _ old new a_word e = e
 
--- what fits whatever the text is no word
+-- a kind that fits in an empty text isn't a word
 pub no_word : (kind : Kind) (side_table : List Placed) (at : ℕ) → FoundFits [] side_table at 0 kind → is_word kind ≡ true → ⊥
 no_word kinds.LParen side_table at h a_word = cc
 no_word kinds.RParen side_table at h a_word = cc

@@ -14,7 +14,7 @@ use Rattle.wat_lexer.specs.Cut.{Cuts, IsCut, Closed, Unclosed, FirstUnclosed, Fi
 use Rattle.wat_lexer.specs.declared.fault.Fault.{Fault}
 use Rattle.wat_lexer.specs.Laws.Fronts as fronts
 
--- of two places each of which is the first, neither comes before the other
+-- two places that are both the first are the same place
 same_place : (P : ℕ → Type 0) (i j : ℕ) → P i → P j → ((k : ℕ) → k < i → P k → ⊥) → ((k : ℕ) → k < j → P k → ⊥) → i ≡ j
 same_place P i j p q before_i before_j = grind arith
 
@@ -50,7 +50,7 @@ none_noted (LParen ∷ []) e zero = refl
 none_noted (LParen ∷ _ ∷ ts) e zero = refl
 none_noted (_ ∷ ts) e zero = refl
 
--- where no annotation is among the tokens, each group of one is closed, and nothing is to be told
+-- if no token is an annotation, all annotation groups are closed
 pub closed_anyway : (ls : List Entry) → has_annotation (toks ls) ≡ false → Closed (tokens_of (placed ls))
 closed_anyway ls e i (n, r, is, unclosed_group) =
     let f : true ≡ false = ap begins_annotation_group (sym is) ∙ rw (tokens_of-placed ls) (none_noted (toks ls) e i) in cc

@@ -1,4 +1,4 @@
--- The classes of runs of idchars, at a place of the text.
+-- The classes of runs of idchars, at an offset of the text.
 use Rattle.std.proofs.Common.{◌≡◌, ℕ, zero, suc, ◌+◌, ◌-◌, ◌<◌, ◌≤◌, List, [], ◌∷◌, length, drop, get_or, refl, arith, drop-drop, get_or-drop, get_or-take, length-drop, length-take}
 use Rattle.std.specs.Prelude.{Bool, true, false, slice_range, ◌==◌, ◌&&◌, ◌*◌, if◌then◌else◌, Some, None, is_some}
 use Rattle.std.specs.Char.{digit_value}
@@ -39,7 +39,7 @@ plain_here behind from end s order within all =
     let all = rw cons at all in
     rw (cons, excluded (get_or s from 0) 34 (all_tail (get_or s from 0) (slice_range s (from + 1) end) all).0 refl, all)
 
--- the name behind the first byte
+-- the name after the first byte
 pub plain_name : (from end : ℕ) (s : List ℕ) → from + 1 < end → end ≤ length s → all_idchars (slice_range s from end) ≡ true → name_behind (slice_range s (from + 1) end) ≡ Some (slice_range s (from + 1) end)
 plain_name from end s order within all =
     name_plain (slice_range s (from + 1) end) (omega (arith, length-take (end - (from + 1)) (drop (from + 1) s), length-drop (from + 1) s))
@@ -64,7 +64,7 @@ pub ruleset plain_kinds = (plain_here, plain_name, plain_bare, plain_ascii)
 
 -- NUMBERS
 
--- whether it is a number doesn't depend on the value so far
+-- whether digits are a number doesn't depend on the value so far
 pub read_any : (base : ℕ) (behind : Bool) (n : ℕ) (t : List ℕ) → is_some (read base behind n t) ≡ is_some (read base behind 0 t)
 unfolding read
 read_any base true n [] = refl
@@ -89,6 +89,6 @@ hex_many [] h = cc
 hex_many (a ∷ []) h = cc
 hex_many (a ∷ b ∷ t) h = omega arith
 
--- behind `0x`
+-- the offset after `0x`
 pub hex_after : (i : ℕ) (s : List ℕ) → begins_hex (drop i s) ≡ true → (i + 2 ≤ length s) × (drop 2 (drop i s) ≡ drop (i + 2) s)
 hex_after i s h = (omega (arith, length-drop i s, hex_many (drop i s) h), drop-drop 2 i s)

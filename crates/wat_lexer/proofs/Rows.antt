@@ -1,4 +1,4 @@
--- Small texts, and the tokens into which they are cut: what is found of them by the scans.
+-- Example texts and their tokens, computed with the scans.
 use Rattle.std.proofs.Common.{◌≡◌, ℕ, zero, suc, ◌-◌, ◌<◌, List, [], ◌∷◌, length, drop, refl, sym, arith}
 use Rattle.std.specs.Prelude.{Bool, true, false, Option, Some, None, option_map, is_some, ◌&&◌, ◌||◌, not, codes}
 use Rattle.std.proofs.lemmas.Bool.{and_parts}
@@ -18,14 +18,14 @@ use Rattle.wat_lexer.specs.Laws.Fronts.{CutBy, front_cut, front_fails}
 
 -- CUTS
 
--- the cut, by what is in front, where the rest has one
+-- the cut of a text, by the blank or token in front and the cut of the rest
 abbrev cut_by : (Bool → List ℕ → Option (List Placed)) → ℕ → List ℕ → Beginning → Option (List Placed)
 cut_by go n s Nothing = Some []
 cut_by go n s (BlankTo rest) = go false rest
 cut_by go n s (TokenTo t rest) = option_map (λ us. record { token = t; offset = n - length s } ∷ us) (go (is_open t) rest)
 cut_by go n s (Wrong f q) = None
 
--- the cut of at most so many pieces
+-- the cut of a text with fewer than this many blanks and tokens
 abbrev cut_in : ℕ → ℕ → Bool → List ℕ → Option (List Placed)
 cut_in zero n behind s = None
 cut_in (suc k) n behind s = cut_by (cut_in k n) n s (front behind s)
@@ -47,7 +47,7 @@ cuts_in (suc k) n behind s ts e = front_cut (by_front (cut_in k n) n s (λ b r u
 
 -- GROUPS
 
--- the group in front, if one begins with an annotation there, is closed
+-- the group in front is closed, if it begins with an annotation
 abbrev closes_here : List Tok → Bool
 closes_here ts = not (begins_annotation_group ts) || is_some (behind_group 0 (drop 2 ts))
 
@@ -56,7 +56,7 @@ here ts e (n, r, is, none) =
     let closed : is_some (behind_group 0 r) ≡ true = rw is at e in
     let f : false ≡ true = rw none at closed in cc
 
--- so are the groups at the first so many places
+-- the groups at the first k places are closed
 abbrev close_to : ℕ → List Tok → Bool
 close_to zero ts = true
 close_to (suc k) ts = closes_here ts && close_to k (drop 1 ts)
@@ -67,7 +67,7 @@ closed_to (suc k) ts e zero lt u = here ts (and_parts (closes_here ts) (close_to
 closed_to (suc k) [] e (suc i) lt (n, r, is, none) = cc
 closed_to (suc k) (x ∷ ts) e (suc i) lt u = closed_to k ts (and_parts (closes_here (x ∷ ts)) (close_to k ts) e).1 i (omega arith) u
 
--- so are all
+-- all groups are closed
 abbrev all_close : List Tok → Bool
 all_close [] = true
 all_close (x ∷ ts) = closes_here (x ∷ ts) && all_close ts

@@ -1,4 +1,4 @@
--- What is hidden in front is passed in one step.
+-- Hidden tokens in front are passed in one step.
 use Rattle.std.proofs.Common.{◌≡◌, ℕ, ◌+◌, ◌-◌, ◌≤◌, Bool, false, List, [], ◌∷◌, length, drop, Some, None, refl, arith, subst, drop-drop, inl, inr}
 use Rattle.std.specs.Prelude.{Option}
 use Rattle.std.proofs.lemmas.Bool.{cases_Bool}
@@ -13,7 +13,7 @@ skips_drop n ls p known i = rw (drop-drop i n ls) (p known (n + i))
 pub skips_later : (ls : List Entry) (a b : ℕ) → a ≤ b → AreSkips (drop a ls) → AreSkips (drop b ls)
 skips_later ls a b le p = let n : a + (b - a) ≡ b = omega arith in rw (drop-drop (b - a) a ls, n) at (skips_drop (b - a) (drop a ls) p)
 
--- behind what is hidden the rest is visible, and nothing more is hidden there
+-- after the hidden tokens the same tokens are visible, and no hidden group begins there
 pub record Passed (known : Bool) (place : Option ℕ) (t : List Tok) : Type 0 where
   pub rest : visible known place t ≡ visible known None (drop (hidden_count_at known place t) t)
   pub stands : begins_hidden_group known (drop (hidden_count_at known place t) t) ≡ false
@@ -42,13 +42,13 @@ pub hidden_count_within : (known : Bool) (ls : List Entry) → hidden_count know
 unfolding hidden_count
 hidden_count_within known ls = omega (arith, (passed known None (toks ls)).within, length-map ls entry_tok)
 
--- what is visible begins with the first of the list, where that isn't hidden
+-- if no hidden group is in front, the visible tokens begin with the first token
 visible_here : (known : Bool) (ls : List Entry) → begins_hidden_group known (toks ls) ≡ false → VisibleFrom known ls (visible_tokens known (toks ls))
 unfolding visible_tokens visible
 visible_here known [] h = refl
 visible_here known (x ∷ ls) h = rw h
 
--- and it begins with the first behind what is hidden
+-- the visible tokens begin with the first token after the hidden tokens
 pub visible_at : (known : Bool) (ls : List Entry) (n : ℕ) → n ≡ hidden_count known (toks ls) → VisibleFrom known (drop n ls) (visible_tokens known (toks ls))
 unfolding visible_tokens hidden_count
 visible_at known ls n e =
@@ -56,7 +56,7 @@ visible_at known ls n e =
     let same : toks (drop n ls) ≡ drop (hidden_count_at known None (toks ls)) (toks ls) = rw (← drop-map entry_tok n ls, e) in
     subst (VisibleFrom known (drop n ls)) (rw (same, p.rest)) (visible_here known (drop n ls) (rw same p.stands))
 
--- and the tokens that are visible are those that are visible behind what is hidden
+-- the visible tokens are the same after the hidden tokens
 pub visible_same : (known : Bool) (ls : List Entry) (n : ℕ) → n ≡ hidden_count known (toks ls) → visible_tokens known (toks (drop n ls)) ≡ visible_tokens known (toks ls)
 unfolding visible_tokens hidden_count
 visible_same known ls n e =
@@ -64,7 +64,7 @@ visible_same known ls n e =
     let same : toks (drop n ls) ≡ drop (hidden_count_at known None (toks ls)) (toks ls) = rw (← drop-map entry_tok n ls, e) in
     rw (same, p.rest)
 
--- of which none is hidden in front
+-- after the hidden tokens, no token in front is hidden
 pub none_hidden : (known : Bool) (ls : List Entry) (n : ℕ) → n ≡ hidden_count known (toks ls) → hidden_count known (toks (drop n ls)) ≡ 0
 unfolding hidden_count
 none_hidden known ls n e =

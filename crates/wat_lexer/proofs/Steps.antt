@@ -1,4 +1,4 @@
--- One step of each scan, at a place of the text.
+-- One step of each scan, at an offset of the text.
 use Rattle.std.proofs.Common.{◌≡◌, ℕ, ◌+◌, ◌-◌, ◌<◌, ◌≤◌, List, [], ◌∷◌, length, drop, get_or, refl, add-one, arith, append_assoc, append-nil, drop-cons, get_or-drop, length-drop}
 use Rattle.std.specs.Prelude.{◌==◌, ◌&&◌, ◌*◌, ◌++◌, if◌then◌else◌, true, false, Option, None, Some, nat_lt, option_map, slice_range}
 use Rattle.std.specs.Char.{digit_value}
@@ -11,7 +11,7 @@ use Rattle.wat_lexer.specs.Bytes.{is_idchar, is_space, is_line_end}
 use Rattle.wat_lexer.specs.Scan.{behind_line, behind_spaces, behind_run, all_idchars, behind_comment, step, emitted, string_at, after_step, with_front, rest_at, closing, Step, Bad, Close, Into, Emit, Encode, Between, Ends, Mode, Raw, Escape, Byte, Brace, Digits}
 use Rattle.wat_lexer.specs.Laws.Pieces.{excluded, run_cons, then_run, rest_front}
 
--- the byte at i, and what follows it
+-- the byte at i, and the text after it
 pub at_front : (i : ℕ) (s : List ℕ) → i < length s → drop i s ≡ get_or s i 0 ∷ drop (i + 1) s
 at_front i s h = rw (add-one, drop-cons s i 0)
 
@@ -41,7 +41,7 @@ comment_none depth i s h = comment_short depth (drop i s) (omega (arith, length-
 
 -- STRINGS
 
--- what a byte does, opened
+-- the effect of a byte in each mode, unfolded
 abbrev pub does : Mode → ℕ → Step
 does Raw b = if b == 34 then Close else (if b == 92 then Into Escape else (if is_raw b then Emit b else Bad))
 does Escape b = if is_hex b then Into (Byte (digit_value b)) else (if b == 117 then Into Brace else emitted (short_escape b))

@@ -1,4 +1,4 @@
--- The tables of bytes, and how far a text goes on with bytes that one marks.
+-- The tables of bytes, and the search for the first byte that a table doesn't mark.
 use Rattle.std.proofs.Common.{◌≡◌, ℕ, zero, suc, ◌+◌, ◌<◌, ◌≤◌, List, Bool, true, false, length, drop, get_or, map, refl, ap, subst, sym, ◌∙◌, arith, inl, inr}
 use Rattle.std.specs.Prelude.{slice_range, ◌==◌, ◌||◌, not}
 use Rattle.std.specs.Char.{digit_value}
@@ -14,7 +14,7 @@ use Rattle.wat_lexer.proofs.Steps.{plain_none, plain_more, run_idchar, space_ste
 
 -- THE TABLES
 
--- what a table has at a byte, where it has at each what a function says
+-- the item of a table at a byte, if the table has the values of a function at all bytes
 table_at : {A : Type 0} (f : ℕ → A) (other : A) (table : List A) → table ≡ map f (range_with_len 0 256) → (b : ℕ) → b < 256 → get_or table b other ≡ f b
 table_at f other table same b lt = ap (λ (xs : List _). get_or xs b other) same ∙ get_or-map-range_with_len f 0 256 b b other lt (omega arith)
 
@@ -51,9 +51,9 @@ in_comment b = not ((b == 40) || (b == 59))
 pub comment_at : (b : ℕ) → b < 256 → get_or IN_COMMENT b false ≡ in_comment b
 comment_at = table_at in_comment false IN_COMMENT refl
 
--- BYTES THAT ONE MARKS
+-- MARKED BYTES
 
--- what holds of each place from one on and below another
+-- the property holds at each place from one offset on and below another
 abbrev pub Below : (ℕ → Type 0) → ℕ → ℕ → Type 0
 Below P from end = (k : ℕ) → k < end → from ≤ k → P k
 
@@ -72,7 +72,7 @@ below_joined P from i end near far k lt le = elim (cases_lt k i) [
   | inr g ↦ far k lt g
 ]
 
--- of all places below the last one it holds too
+-- the property also holds below any smaller end
 below_fewer : (P : ℕ → Type 0) (from i end : ℕ) → i ≤ end → Below P from end → Below P from i
 below_fewer P from i end h below k lt le = below k (omega arith) le
 
@@ -87,7 +87,7 @@ idchars_to (suc d) from end s e h below =
     let (all, run) = idchars_to d from last s refl (omega arith) (below_fewer (λ k. is_idchar (get_or s k 0) ≡ true) from last end (omega arith) below) in
     rw next (plain_more from last s (omega arith) (omega arith) all here, run ∙ run_idchar last s (omega arith) here)
 
--- what reads over each byte that a test marks reads over all of them
+-- a reader that passes each byte that a test marks passes all of these bytes
 reads_over : {A : Type 0} (test : ℕ → Bool) (f : List ℕ → A) (s : List ℕ) → ((i : ℕ) → i < length s → test (get_or s i 0) ≡ true → f (drop i s) ≡ f (drop (i + 1) s))
     → (d from end : ℕ) → from + d ≡ end → end ≤ length s → Below (λ k. test (get_or s k 0) ≡ true) from end → f (drop from s) ≡ f (drop end s)
 reads_over test f s step zero from end e h below = let same : end ≡ from = omega arith in rw same
@@ -103,7 +103,7 @@ pub spaces_to : (d from end : ℕ) (s : List ℕ) → from + d ≡ end → end �
     → behind_spaces (drop from s) ≡ behind_spaces (drop end s)
 spaces_to d from end s = reads_over is_space behind_spaces s (λ i lt here. space_byte i s lt here) d from end
 
--- where no space is in front none is behind spaces
+-- if no space is in front, there are no spaces to pass
 pub no_spaces : (i : ℕ) (s : List ℕ) → (i < length s → is_space (get_or s i 0) ≡ false) → behind_spaces (drop i s) ≡ drop i s
 no_spaces i s stops = elim (cases_lt i (length s)) [
   | inl l ↦ (let none = stops l in space_step i s l ∙ rw none)
@@ -134,7 +134,7 @@ pub lines_to : (d from end : ℕ) (s : List ℕ) → from + d ≡ end → end �
     → behind_line (drop from s) ≡ behind_line (drop end s)
 lines_to d from end s = reads_over in_line behind_line s (λ i lt here. line_byte i s lt here) d from end
 
--- where a line ends nothing of it is behind
+-- at the end of a line there is nothing of the line to pass
 pub no_line : (i : ℕ) (s : List ℕ) → (i < length s → in_line (get_or s i 0) ≡ false) → behind_line (drop i s) ≡ drop i s
 no_line i s stops = elim (cases_lt i (length s)) [
   | inl l ↦ (let ends = not_so (is_line_end (get_or s i 0)) true (stops l) in line_step i s l ∙ rw ends)

@@ -1,4 +1,4 @@
--- The value of an integer, at a place of the text.
+-- The value of an integer, at an offset of the text.
 use Rattle.std.proofs.Common.{◌≡◌, ℕ, ◌+◌, ◌*◌, ◌<◌, ◌≤◌, List, length, drop, get_or, refl, arith}
 use Rattle.std.specs.Prelude.{Bool, true, false, ◌==◌, ◌&&◌, if◌then◌else◌, Option, Some, None, nat_lt}
 use Rattle.std.specs.Char.{digit_value}
@@ -22,7 +22,7 @@ over_limit : (limit m : ℕ) (o : Option ℕ) → limit < m → ((k : ℕ) → o
 over_limit limit m None h up = refl
 over_limit limit m (Some k) h up = grind (arith, nat_tests, up k refl)
 
--- a digit that takes the value past the limit
+-- a digit with which the value exceeds the limit
 pub value_over : (base limit n i : ℕ) (behind : Bool) (s : List ℕ) → i < length s → digit_value (get_or s i 0) < base → 2 ≤ base → limit < n * base + digit_value (get_or s i 0) → up_to limit (read base behind n (drop i s)) ≡ None
 value_over base limit n i behind s h d low gt =
     let m = n * base + digit_value (get_or s i 0) in

@@ -1,4 +1,4 @@
--- Runs that have a string in them.
+-- Runs with a string.
 use Rattle.std.proofs.Common.{◌≡◌, ℕ, ◌+◌, ◌-◌, ◌<◌, ◌≤◌, List, [], ◌∷◌, length, drop, take, get_or, refl, ap, ◌∙◌, arith, zero, suc, drop-drop, length-drop}
 use Rattle.std.specs.Prelude.{Bool, true, false, slice_range, ◌==◌, ◌&&◌, if◌then◌else◌, Option, Some, None, option_map}
 use Rattle.std.proofs.lemmas.Bool.{eqb-true}
@@ -44,7 +44,7 @@ unfolding name_behind string_of
 name_string [] h = refl
 name_string (b ∷ t) h = rw h
 
--- the class of a run that begins with an idchar, by what this is and the name behind it
+-- the class of a run that begins with an idchar, by this idchar and the name after it
 abbrev pub marked : Bool → ℕ → List ℕ → Option (List ℕ) → Tok
 marked behind b x o = if b == 36 then or_reserved Id x o else (if behind && (b == 64) then or_reserved Annotation x o else Reserved x)
 
@@ -88,7 +88,7 @@ rest_here at quote end s h k =
     let place : at + (quote - at) ≡ quote = omega arith in
     rw (size, drop-take (quote - at) (end - quote) (drop at s), drop-drop (quote - at) at s, place)
 
--- a string in the text, and what follows it in the run
+-- a string in the text, and the rest of its run
 string_here : (quote after end : ℕ) (c s : List ℕ) → quote < after → after ≤ end → end ≤ length s → get_or s quote 0 ≡ 34 → string_at Raw (drop (quote + 1) s) ≡ Some (c, drop after s) → string_of (slice_range s quote end) ≡ whole (Some (c, slice_range s after end))
 string_here quote after end c s order far within e h =
     let (y, text, str) = string_sound (drop (quote + 1) s) Raw [] c (drop after s) refl h in

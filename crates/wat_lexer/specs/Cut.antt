@@ -16,7 +16,7 @@ use Rattle.wat_lexer.specs.declared.fault.Fault.TheVariants.{LexAnnotation}
 
 -- STRINGS
 
--- a byte that stands for itself in a string: of a character from U+0020 on, but U+007F, `"` and `\`
+-- a raw byte of a string: a byte of any character from U+0020 on, except U+007F, `"` and `\`
 abbrev pub is_raw : ℕ → Bool
 is_raw b = nat_le 32 b && (not (b == 127) && (not (b == 34) && not (b == 92)))
 
@@ -30,7 +30,7 @@ short_escape c =
 abbrev pub is_hex : ℕ → Bool
 is_hex c = nat_lt (digit_value c) 16
 
--- one element of a string, and the bytes for which it stands
+-- one element of a string, and the bytes that it spells
 pub data Element : List ℕ → List ℕ → Type 0 where
   raw_byte : (b : ℕ) → is_raw b ≡ true → Element (b ∷ []) (b ∷ [])
   short_form : (c v : ℕ) → short_escape c ≡ Some v → Element (92 ∷ c ∷ []) (v ∷ [])
@@ -39,7 +39,7 @@ pub data Element : List ℕ → List ℕ → Type 0 where
   code_point : (x : List ℕ) (n : ℕ) → number 16 x ≡ Some n → IsScalar n
       → Element (92 ∷ 117 ∷ 123 ∷ (x ++ 125 ∷ [])) (encode_utf8 n)
 
--- what is behind the opening quote, closing quote included, and the string's content
+-- the bytes after the opening quote, with the closing quote, and the content of the string
 pub data Str : List ℕ → List ℕ → Type 0 where
   close : Str (34 ∷ []) []
   more : (x v y c : List ℕ) → Element x v → Str y c → Str (x ++ y) (v ++ c)
@@ -49,12 +49,12 @@ IsString x c = (y : List ℕ) × (x ≡ 34 ∷ y) × Str y c
 
 -- BLANKS
 
--- the byte is in front
+-- the text begins with the byte
 abbrev pub begins : ℕ → List ℕ → Bool
 begins b [] = false
 begins b (c ∷ _) = c == b
 
--- Behind the `(;` of a comment in which depth more lie open: up to the `;)` that closes it.
+-- After the `(;` of a comment in which depth more comments are open, up to the `;)` that closes it.
 pub data Inside : ℕ → List ℕ → Type 0 where
   last : Inside 0 (59 ∷ 41 ∷ [])
   closed : (depth : ℕ) (x : List ℕ) → Inside depth x → Inside (depth + 1) (59 ∷ 41 ∷ x)
@@ -62,12 +62,12 @@ pub data Inside : ℕ → List ℕ → Type 0 where
   other : (depth b c : ℕ) (x : List ℕ) → (b == 40) && (c == 59) ≡ false
       → (b == 59) && (c == 41) ≡ false → Inside depth (c ∷ x) → Inside depth (b ∷ c ∷ x)
 
--- the next byte, if there is one, passes the test
+-- the next byte, if any, passes the test
 abbrev pub Begins : (ℕ → Bool) → List ℕ → Type 0
 Begins test [] = Unit {0}
 Begins test (b ∷ _) = test b ≡ true
 
--- a blank, and that it can stand before the rest
+-- a blank that the rest can follow
 pub data Blank : List ℕ → List ℕ → Type 0 where
   space : (b : ℕ) (rest : List ℕ) → is_space b ≡ true → Blank (b ∷ []) rest
   line : (x rest : List ℕ) → AllByRecursion (λ b. is_line_end b ≡ false) x → Begins is_line_end rest
@@ -94,7 +94,7 @@ Name mark x n =
     (y : List ℕ) × (x ≡ mark ∷ y) × (0 < length n)
     × (((y ≡ n) × Idchars n) ⊎ (IsString y n × IsUtf8 n))
 
--- The class and the content of a run. The flag says that a `(` is directly before it.
+-- The class and the content of a run. The flag is true if a `(` is directly before the run.
 abbrev pub Classed : Bool → List ℕ → Tok → Type 0
 Classed behind x (Keyword k) =
     (x ≡ k) × Idchars x × (b : ℕ) × (y : List ℕ) × (x ≡ b ∷ y) × (between 97 122 b ≡ true)
@@ -106,7 +106,7 @@ Classed behind x LParen = ⊥
 Classed behind x RParen = ⊥
 Classed behind x (Reserved k) = ⊥
 
--- a token, and that it can stand before the rest
+-- a token that the rest can follow
 abbrev pub Token : Bool → List ℕ → List ℕ → Tok → Type 0
 Token behind x rest LParen = (x ≡ 40 ∷ []) × Begins (λ b. not (b == 59)) rest
 Token behind x rest RParen = x ≡ 41 ∷ []
@@ -116,8 +116,8 @@ Token behind x rest t = Run x × Begins in_no_run rest × Classed behind x t
 
 -- TEXTS
 
--- the text is cut into the tokens with their places; n is the length of the whole text, of which
--- this is an end; the flag says that a `(` is directly before it
+-- the text is cut into the tokens with their offsets; n is the length of the whole text, and this
+-- text is a suffix of it; the flag is true if a `(` is directly before this text
 pub data Cuts : ℕ → Bool → List ℕ → List Placed → Type 0 where
   done : (n : ℕ) (behind : Bool) → Cuts n behind [] []
   blank : (n : ℕ) (behind : Bool) (text x rest : List ℕ) (ts : List Placed) → text ≡ x ++ rest
@@ -128,7 +128,7 @@ pub data Cuts : ℕ → Bool → List ℕ → List Placed → Type 0 where
 
 -- GROUPS
 
--- at the place stands a group that begins with an annotation and isn't closed
+-- a group that begins with an annotation is at the index, and isn't closed
 abbrev pub Unclosed : List Tok → ℕ → Type 0
 Unclosed ts i =
     (n : List ℕ) × (rest : List Tok) × (drop i ts ≡ LParen ∷ (Annotation n ∷ rest))
@@ -138,15 +138,15 @@ Unclosed ts i =
 abbrev pub Closed : List Tok → Type 0
 Closed ts = (i : ℕ) → Unclosed ts i → ⊥
 
--- The tokens with their places are the text's cut.
+-- The tokens with their offsets are the text's cut.
 abbrev pub IsCut : List ℕ → List Placed → Type 0
 IsCut text ts = Cuts (length text) false text ts × Closed (tokens_of ts)
 
 -- FAULTS
 
--- No blank and no token is in front of the text. The fault, and the text from its place on: a
--- character that begins none, the `(` of a comment that isn't closed, or the quote of a string in a
--- run that is none.
+-- No blank and no token begins the text. The fault, and the text from the fault's offset on. The
+-- offset is that of a character that begins no token and no blank, of the `(` of a comment that
+-- isn't closed, or of the opening quote of an invalid string in a run.
 pub data Broken : List ℕ → Fault → List ℕ → Type 0 where
   wrong_char : (b : ℕ) (rest : List ℕ) → is_space b ≡ false → in_no_run b ≡ true → (b == 40) ≡ false
       → (b == 41) ≡ false → (b == 59) && begins 59 rest ≡ false
@@ -156,7 +156,7 @@ pub data Broken : List ℕ → Fault → List ℕ → Type 0 where
   wrong_string : (x rest : List ℕ) → Run x → ((y c more : List ℕ) → rest ≡ y ++ more → Str y c → ⊥)
       → Broken (x ++ 34 ∷ rest) LexString (34 ∷ rest)
 
--- behind blanks and tokens, a place where none is in front
+-- after blanks and tokens, a place where no blank and no token begins
 pub data Fails : Bool → List ℕ → Fault → List ℕ → Type 0 where
   at_once : (behind : Bool) (text : List ℕ) (f : Fault) (at : List ℕ) → Broken text f at
       → Fails behind text f at
@@ -172,8 +172,8 @@ FirstUnclosed ts offset =
     (i : ℕ) × (t : Placed) × (slice_get ts i ≡ Some t) × (offset ≡ t.offset)
     × Unclosed (tokens_of ts) i × ((j : ℕ) → j < i → Unclosed (tokens_of ts) j → ⊥)
 
--- The text's first fault from the left, and its offset; a group that isn't closed comes after all
--- others.
+-- The text's first fault from the left, and its offset. A group that isn't closed is the first
+-- fault only if there is no other fault.
 pub data FirstFault : List ℕ → Fault → ℕ → Type 0 where
   cutting : (text : List ℕ) (f : Fault) (at : List ℕ) → Fails false text f at
       → FirstFault text f (length text - length at)

@@ -57,6 +57,6 @@ fault_name ImportMixed = codes "ImportMixed"
 fault_name ImportId = codes "ImportId"
 fault_name HintTarget = codes "HintTarget"
 
--- want of memory
+-- out of memory
 abbrev pub no_memory : Error
 no_memory = record { fault = Memory; span = record { offset = 0 } }

@@ -1,7 +1,7 @@
--- What contracts see of an integer.
+-- Integers as contracts see them.
 use Rattle.std.specs.Prelude.{ℕ, List}
 use Rattle.wat_lexer.specs.declared.number.Integer.{Integer}
 
--- its text
+-- the text of an integer
 abbrev pub text_of : Integer → List ℕ
 text_of i = i.text.now

@@ -1,5 +1,5 @@
--- What an integer is, and what it reads as in a number of bits. An integer is a sign, if there is
--- one, and then digits, or `0x` and hex digits, with single `_` between digits.
+-- Integers, and their values in a number of bits. An integer is an optional sign, and then digits,
+-- or `0x` and hex digits, with single `_` between digits.
 use Rattle.std.specs.Prelude.{ℕ, ◌+◌, ◌-◌, ◌*◌, ◌^◌, Bool, true, false, List, [], ◌∷◌, drop, Option}
 use Rattle.std.specs.Prelude.{Some, None, option_map, is_some, ◌==◌, ◌&&◌, ◌||◌, nat_lt, nat_le}
 use Rattle.std.specs.Prelude.{if◌then◌else◌, ℤ, pos, neg_ℤ, ◌-ℤ◌}
@@ -9,15 +9,15 @@ use Rattle.wat_lexer.specs.declared.number.Sign.TheVariants.{Plus, Minus}
 
 -- DIGITS
 
--- Reads on, where the digits so far have the value n. The flag says that a digit is directly
--- before. A digit is always right, a `_` (95) only directly behind a digit, and the end too.
+-- Reads on. The digits so far have the value n. The flag is true if a digit is directly before. A
+-- digit is valid anywhere. A `_` (95) and the end are valid only directly after a digit.
 unfoldable pub read : ℕ → Bool → ℕ → List ℕ → Option ℕ
 read base behind n [] = if behind then Some n else None
 read base behind n (c ∷ t) =
     if nat_lt (digit_value c) base then read base true (n * base + digit_value c) t
     else (if behind && (c == 95) then read base false n t else None)
 
--- the value of digits of a base, with single `_` between them; there is at least one digit
+-- the value of digits of a base, with single `_` between digits; there is at least one digit
 abbrev pub number : ℕ → List ℕ → Option ℕ
 number base x = read base false 0 x
 
@@ -33,12 +33,12 @@ magnitude x = if begins_hex x then number 16 (drop 2 x) else number 10 x
 
 -- SIGNS
 
--- `+` (43) or `-` (45), where one is in front
+-- the sign in front: `+` (43) or `-` (45)
 abbrev pub sign_of : List ℕ → Option Sign
 sign_of [] = None
 sign_of (c ∷ _) = if c == 43 then Some Plus else (if c == 45 then Some Minus else None)
 
--- the bytes behind the sign, or all where there is none
+-- the bytes after the sign, or all bytes if there is no sign
 abbrev pub without_sign : List ℕ → List ℕ
 without_sign [] = []
 without_sign (c ∷ t) = if (c == 43) || (c == 45) then t else c ∷ t
@@ -52,12 +52,12 @@ is_integer x = is_some (magnitude (without_sign x))
 abbrev pub is_width : ℕ → Bool
 is_width bits = (bits == 8) || ((bits == 16) || ((bits == 32) || (bits == 64)))
 
--- the value, where it is at most the limit
+-- the value, if it is at most the limit
 abbrev pub up_to : ℕ → Option ℕ → Option ℕ
 up_to limit None = None
 up_to limit (Some n) = if nat_le n limit then Some n else None
 
--- The value of an integer that is read without a sign. A `-` is refused, also that of `-0`.
+-- The unsigned value of an integer. A `-` is refused, also for `-0`.
 abbrev pub unsigned_by : Option Sign → ℕ → Option ℕ → Option ℕ
 unsigned_by None bits n = up_to (2 ^ bits - 1) n
 unsigned_by (Some Plus) bits n = up_to (2 ^ bits - 1) n
@@ -70,8 +70,8 @@ unsigned_value bits x = unsigned_by (sign_of x) bits (magnitude (without_sign x)
 abbrev pub twos_complement : ℕ → ℕ → ℤ
 twos_complement bits n = if nat_lt n (2 ^ (bits - 1)) then pos n else pos n -ℤ pos (2 ^ bits)
 
--- The value of an integer that is read with a sign. With `-` it is the negative of at most
--- 2^(bits-1); else it is that of an unsigned number with the same bits.
+-- The signed value of an integer. After `-` it is the negative of at most 2^(bits-1). Otherwise it
+-- is the signed number with the same bits as the unsigned value.
 abbrev pub signed_by : Option Sign → ℕ → Option ℕ → Option ℤ
 signed_by None bits n = option_map (twos_complement bits) (up_to (2 ^ bits - 1) n)
 signed_by (Some Plus) bits n = option_map (twos_complement bits) (up_to (2 ^ bits - 1) n)

@@ -2,6 +2,6 @@
 use Rattle.std.specs.Prelude.{ℕ}
 use Rattle.wat_lexer.specs.declared.span.Span.{Span}
 
--- how many bytes of the text stand before the place
+-- the offset of the position, in bytes from the start of the text
 abbrev pub offset_of : Span → ℕ
 offset_of s = s.offset

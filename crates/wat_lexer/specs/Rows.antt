@@ -1,4 +1,4 @@
--- Small texts, and the tokens into which they are cut, each with how many bytes stand before it.
+-- Example texts, and their tokens with offsets in bytes.
 use Rattle.std.specs.Prelude.{◌≡◌, ℕ, List, [], ◌∷◌, codes, true, false, Some, None}
 use Rattle.std.specs.Prelude.{pos, neg_ℤ}
 use Rattle.wat_lexer.specs.Token.{Tok, LParen, RParen, Keyword, Id, Annotation, Integer, String}
@@ -12,13 +12,13 @@ use Rattle.wat_lexer.specs.declared.fault.Fault.TheVariants.{LexAnnotation}
 abbrev pub at : ℕ → Tok → Placed
 at n t = record { token = t; offset = n }
 
--- a line comment with a `(` in it, and a block comment with another and a quote in it
+-- a line comment with a `(`, and a block comment with a nested comment and a quote
 abbrev pub Comments : Type 0
 Comments =
     IsCut (codes "(a ;;b(\n(;(;;)\";)c)")
     (at 0 LParen ∷ at 1 (Keyword (codes "a")) ∷ at 17 (Keyword (codes "c")) ∷ at 18 RParen ∷ [])
 
--- a tab, the letter A and U+1F600 by their escapes, and a string without one
+-- a string with the escapes of a tab, the letter A and U+1F600, and a string without escapes
 abbrev pub Strings : Type 0
 Strings =
     IsCut (codes "\"a\\t\\41\\u{1_f600}\" \"b c\"")
@@ -32,15 +32,15 @@ QuotedNames =
     (at 0 (Id (codes "x")) ∷ at 3 (Id (codes "a b")) ∷ at 10 LParen
     ∷ at 11 (Annotation (codes "n")) ∷ at 16 (Keyword (codes "c")) ∷ at 17 RParen ∷ [])
 
--- `( @n $ "a"b)`: the `@` isn't directly behind the `(`, no name is behind the `$`, and a letter is
--- directly behind the string
+-- `( @n $ "a"b)`: the `@` isn't directly after the `(`, no name is after the `$`, and a letter is
+-- directly after the string
 abbrev pub Spoiled : Type 0
 Spoiled =
     IsCut (codes "( @n $ \"a\"b)")
     (at 0 LParen ∷ at 2 (Reserved (codes "@n")) ∷ at 5 (Reserved (codes "$"))
     ∷ at 7 (Reserved (codes "\"a\"b")) ∷ at 11 RParen ∷ [])
 
--- a `_` is between two digits
+-- each `_` must be between two digits
 abbrev pub Integers : Type 0
 Integers =
     IsCut (codes "1_000 -0x1_F +7 1__0 _1 1_")
@@ -48,7 +48,7 @@ Integers =
     ∷ at 13 (Integer (codes "+7")) ∷ at 16 (Reserved (codes "1__0"))
     ∷ at 21 (Reserved (codes "_1")) ∷ at 24 (Reserved (codes "1_")) ∷ [])
 
--- read in 8 bits
+-- values in 8 bits
 abbrev pub Values : Type 0
 Values =
     (unsigned_value 8 (codes "0x1_F") ≡ Some 31) × (unsigned_value 8 (codes "+255") ≡ Some 255)
@@ -66,7 +66,7 @@ custom_group =
 abbrev two_groups : List Tok
 two_groups = LParen ∷ Annotation (codes "x") ∷ RParen ∷ custom_group
 
--- the group of `@custom` is hidden where the five names aren't known, that of `@x` in any case
+-- the group of `@custom` is hidden if the five names aren't known; the group of `@x` always is
 abbrev pub HiddenGroups : Type 0
 HiddenGroups =
     (hidden_count false custom_group ≡ 6)

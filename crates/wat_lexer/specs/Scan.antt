@@ -1,4 +1,4 @@
--- Where a piece at the front of a text ends.
+-- The ends of comments, strings and runs, and the blank or token in front of a text.
 use Rattle.std.specs.Prelude.{◌≡◌, ◌≤◌, ◌<◌, drop, slice_range, Result, Ok, Err, ℕ, ◌+◌, ◌-◌, ◌*◌, Bool, true, false}
 use Rattle.std.specs.Prelude.{List, [], ◌∷◌, ◌++◌, take, length, Option, Some, None, option_map}
 use Rattle.std.specs.Prelude.{◌==◌, ◌&&◌, nat_lt, if◌then◌else◌, encode_utf8}
@@ -16,7 +16,7 @@ use Rattle.wat_lexer.specs.declared.fault.Fault.TheVariants.{LexChar, LexString,
 use Rattle.wat_lexer.specs.declared.string.Escaped.{Escaped}
 use Rattle.wat_lexer.specs.declared.string.Escaped.TheVariants as escaped
 
--- what follows the `;)` of a block comment in which depth more comments lie open
+-- the text after the `;)` of a block comment in which depth more comments are open
 unfoldable pub behind_comment : ℕ → List ℕ → Option (List ℕ)
 behind_comment depth [] = None
 behind_comment depth (a ∷ []) = None
@@ -26,9 +26,9 @@ behind_comment depth (a ∷ b ∷ t) =
     then (if depth == 0 then Some t else behind_comment (depth - 1) t)
     else behind_comment depth (b ∷ t))
 
--- Where a place lies within a string: between two elements, behind a backslash, behind a backslash
--- and a hex digit, behind `\u`, behind `\u{` and digits of this value. The flag says that a digit
--- is directly before.
+-- A place within a string: between two elements, after a backslash, after a backslash and a hex
+-- digit, after `\u`, or after `\u{` and digits of this value. The flag is true if a digit is
+-- directly before the place.
 pub data Mode : Type 0 where
   Raw : Mode
   Escape : Mode
@@ -36,7 +36,7 @@ pub data Mode : Type 0 where
   Brace : Mode
   Digits : ℕ → Bool → Mode
 
--- what a byte does there
+-- the effect of a byte at such a place
 pub data Step : Type 0 where
   Bad : Step
   Close : Step
@@ -48,7 +48,7 @@ abbrev pub emitted : Option ℕ → Step
 emitted None = Bad
 emitted (Some v) = Emit v
 
--- what a byte of a string does
+-- the effect of a byte at a place within a string
 unfoldable pub step : Mode → ℕ → Step
 step Raw b =
     if b == 34 then Close else (if b == 92 then Into Escape else (if is_raw b then Emit b else Bad))
@@ -66,7 +66,7 @@ step (Digits n behind) b =
 abbrev pub with_front : List ℕ → Option (List ℕ × List ℕ) → Option (List ℕ × List ℕ)
 with_front v found = option_map (λ r. (v ++ r.0, r.1)) found
 
--- What a string is from such a place on: its content, and what follows its closing quote.
+-- The rest of a string after a step: its content, and the text after its closing quote.
 abbrev pub after_step : Step → List ℕ → (Mode → Option (List ℕ × List ℕ)) → Option (List ℕ × List ℕ)
 after_step Bad t go = None
 after_step Close t go = Some ([], t)
@@ -83,12 +83,12 @@ pub data RunPlace : Type 0 where
   Between : RunPlace
   Within : Mode → List ℕ → RunPlace
 
--- what follows a run, or the text from the opening quote of a string in it that is none
+-- the text after a run, or the text from the opening quote of an invalid string in the run on
 pub data RunEnd : Type 0 where
   Ends : List ℕ → RunEnd
   Stuck : List ℕ → RunEnd
 
--- what follows a run, from such a place on
+-- the end of a run after a step within a string
 abbrev pub run_step : Step → List ℕ → (RunPlace → RunEnd) → RunEnd
 run_step Bad q go = Stuck q
 run_step Close q go = go Between
@@ -104,17 +104,17 @@ behind_run Between (b ∷ t) =
 behind_run (Within mode q) [] = Stuck q
 behind_run (Within mode q) (b ∷ t) = run_step (step mode b) q (λ next. behind_run next t)
 
--- the place at which a run ends, or of the quote of the string in it that is none
+-- the offset at which a run ends, or the offset of the opening quote of an invalid string in it
 abbrev pub RunEndIs : List ℕ → Result ℕ ℕ → RunEnd → Type 0
 RunEndIs text (Ok end) e = e ≡ Ends (drop end text)
 RunEndIs text (Err quote) e = (e ≡ Stuck (drop quote text)) × (quote ≤ length text)
 
--- what follows a line comment
+-- the text after a line comment
 unfoldable pub behind_line : List ℕ → List ℕ
 behind_line [] = []
 behind_line (b ∷ t) = if is_line_end b then b ∷ t else behind_line t
 
--- what follows spaces
+-- the text after spaces
 unfoldable pub behind_spaces : List ℕ → List ℕ
 behind_spaces [] = []
 behind_spaces (b ∷ t) = if is_space b then behind_spaces t else b ∷ t
@@ -123,13 +123,13 @@ unfoldable pub all_idchars : List ℕ → Bool
 all_idchars [] = true
 all_idchars (b ∷ t) = is_idchar b && all_idchars t
 
--- between the places of the text is a whole run, of idchars alone
+-- the text between the offsets is a whole run, and has only idchars
 pub record IsWholeWord (text : List ℕ) (at end : ℕ) : Type 0 where
   pub within : (at < end) × (end ≤ length text)
   pub all : all_idchars (slice_range text at end) ≡ true
   pub run : behind_run Between (drop at text) ≡ Ends (drop end text)
 
--- the content where the string that begins at the front is the whole
+-- the content of the string in front, if nothing follows the string
 abbrev pub whole : Option (List ℕ × List ℕ) → Option (List ℕ)
 whole None = None
 whole (Some (c, [])) = Some c
@@ -139,7 +139,7 @@ unfoldable pub string_of : List ℕ → Option (List ℕ)
 string_of [] = None
 string_of (b ∷ t) = if b == 34 then whole (string_at Raw t) else None
 
--- the name behind `$` or `@`
+-- the name that a string after `$` or `@` spells, if it is UTF-8 and not empty
 abbrev pub text_name : Option (List ℕ) → Option (List ℕ)
 text_name None = None
 text_name (Some []) = None
@@ -164,7 +164,7 @@ class behind (b ∷ t) =
     else (if all_idchars (b ∷ t) && is_integer (b ∷ t) then Integer (b ∷ t)
     else Reserved (b ∷ t)))))
 
--- what is in front of a text; where nothing can, the fault and the text from its place on
+-- the blank or token in front of a text, or the fault and the text from the fault's offset on
 pub data Beginning : Type 0 where
   Nothing : Beginning
   BlankTo : List ℕ → Beginning
@@ -196,16 +196,16 @@ front behind (b ∷ t) =
     (b ∷ t))
     else run_front behind (b ∷ t) (behind_run Between (b ∷ t)))))
 
--- what follows a string, from behind its opening quote on
+-- the text after a string; `s` is the text after the opening quote
 unfoldable pub rest_at : List ℕ → Option (List ℕ)
 rest_at s = option_map (λ r. r.1) (string_at Raw s)
 
--- what an escape stands for
+-- the bytes that an escape spells
 abbrev pub spelled : Escaped → List ℕ
 spelled (escaped.Byte b) = b ∷ []
 spelled (escaped.Char c) = encode_utf8 c
 
--- a string's end, where its closing quote is in front
+-- the end of a string, if its closing quote is in front
 abbrev pub closing : List ℕ → Option (List ℕ × List ℕ)
 closing [] = None
 closing (b ∷ t) = if b == 34 then Some ([], t) else None

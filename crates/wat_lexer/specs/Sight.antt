@@ -1,22 +1,22 @@
--- Groups in parentheses, and what lookups and parsers see of the tokens: groups of annotations that
--- aren't known are left out.
+-- Groups in parentheses, and the tokens that lookups and parsers see. Groups whose annotation isn't
+-- known are hidden.
 use Rattle.std.specs.Prelude.{ℕ, zero, suc, ◌+◌, ◌-◌, Bool, true, false, not, ◌&&◌, ◌||◌}
 use Rattle.std.specs.Prelude.{if◌then◌else◌, List, [], ◌∷◌, Option, Some, None, codes}
 use Rattle.std.specs.Str.{bytes_eq}
 use Rattle.wat_lexer.specs.Token.{Tok, LParen, RParen, Annotation}
 
--- the token closes the group in which `depth` more lie open
+-- the token closes the group in which `depth` more groups are open
 abbrev pub shuts : Tok → ℕ → Bool
 shuts RParen zero = true
 shuts _ _ = false
 
--- how many lie open behind the token
+-- the number of open groups after the token
 abbrev pub deeper : Tok → ℕ → ℕ
 deeper LParen depth = depth + 1
 deeper RParen depth = depth - 1
 deeper _ depth = depth
 
--- what follows the `)` of a group in which `depth` more groups lie open, where it is closed
+-- the tokens after the `)` of a group in which `depth` more groups are open, if the group is closed
 unfoldable pub behind_group : ℕ → List Tok → Option (List Tok)
 behind_group depth [] = None
 behind_group depth (x ∷ r) = if shuts x depth then Some r else behind_group (deeper x depth) r
@@ -37,13 +37,13 @@ abbrev pub annotation_name : List Tok → List ℕ
 annotation_name (LParen ∷ Annotation n ∷ r) = n
 annotation_name _ = []
 
--- a group whose annotation isn't known is in front; `known` says that the five names are
+-- a group whose annotation isn't known is in front; with `known` the five standard names are known
 abbrev pub begins_hidden_group : Bool → List Tok → Bool
 begins_hidden_group known t =
     begins_annotation_group t && not (known && is_standard (annotation_name t))
 
--- The tokens without each group that is hidden. `Some depth` is within such a group, in which
--- `depth` more lie open.
+-- The tokens without the hidden groups. `Some depth` is a place within a hidden group, in which
+-- `depth` more groups are open.
 unfoldable pub visible : Bool → Option ℕ → List Tok → List Tok
 visible known place [] = []
 visible known None (x ∷ r) =
@@ -51,11 +51,11 @@ visible known None (x ∷ r) =
 visible known (Some depth) (x ∷ r) =
     if shuts x depth then visible known None r else visible known (Some (deeper x depth)) r
 
--- the tokens that are visible
+-- the visible tokens
 unfoldable pub visible_tokens : Bool → List Tok → List Tok
 visible_tokens known t = visible known None t
 
--- how many tokens stand before the first that is visible, with the same places
+-- the number of tokens before the first visible token, with places as in `visible`
 unfoldable pub hidden_count_at : Bool → Option ℕ → List Tok → ℕ
 hidden_count_at known place [] = 0
 hidden_count_at known None (x ∷ r) =
@@ -64,6 +64,6 @@ hidden_count_at known (Some depth) (x ∷ r) =
     if shuts x depth then suc (hidden_count_at known None r) else suc
     (hidden_count_at known (Some (deeper x depth)) r)
 
--- how many tokens stand before the first that is visible
+-- the number of tokens before the first visible token
 unfoldable pub hidden_count : Bool → List Tok → ℕ
 hidden_count known t = hidden_count_at known None t

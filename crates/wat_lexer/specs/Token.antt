@@ -2,8 +2,8 @@
 use Rattle.std.specs.Prelude.{ℕ, Bool, true, false, List, [], ◌∷◌, ◌||◌, map}
 use Rattle.wat_lexer.specs.declared.lexeme.Skips.{Skips}
 
--- A token, without its place. Names are those of the ids and annotations, an integer is its text, a
--- string its content.
+-- A token without its offset. Identifiers and annotations have their name, strings their content,
+-- and the others except parens their text.
 pub data Tok : Type 0 where
   LParen : Tok
   RParen : Tok
@@ -14,13 +14,13 @@ pub data Tok : Type 0 where
   String : List ℕ → Tok
   Reserved : List ℕ → Tok
 
--- a token, and how many bytes of the text stand before it
+-- a token and its offset in bytes
 pub record Placed : Type 0 where
   pub token : Tok
   pub offset : ℕ
 
--- A token, how many bytes of the text stand before it, and, of the annotation of a group, how far
--- lookups go from the `(` in front of it.
+-- A token, its offset in bytes, and its skips. For the annotation of a group, the skips are the
+-- number of tokens that lookups skip from the `(` before the annotation on.
 pub record Entry : Type 0 where
   pub token : Tok
   pub offset : ℕ
@@ -41,7 +41,7 @@ abbrev pub is_annotation : Tok → Bool
 is_annotation (Annotation n) = true
 is_annotation _ = false
 
--- an annotation is among the tokens
+-- a token of the list is an annotation
 abbrev pub has_annotation : List Tok → Bool
 has_annotation [] = false
 has_annotation (x ∷ r) = is_annotation x || has_annotation r

@@ -1,4 +1,4 @@
-//! Tables of bytes, and how far a text goes on with bytes that one marks.
+//! Tables of bytes, and the search for the first byte that a table doesn't mark.
 
 ghost use Rattle.std.specs.Prelude.{◌≡◌, ◌+◌, ◌≤◌, ◌<◌, ℕ, true, false, length, slice_index};
 ghost use Rattle.std.proofs.Math.ListN.{get_or};
@@ -7,7 +7,7 @@ const T: bool = true;
 
 const F: bool = false;
 
-/// Which bytes are spaces, 16 in each row.
+/// Marks spaces. Each row has 16 bytes.
 #[rattlefmt::skip]
 pub(crate) static SPACES: [bool; 256] = [
     F, F, F, F, F, F, F, F, F, T, T, F, F, T, F, F,
@@ -28,7 +28,7 @@ pub(crate) static SPACES: [bool; 256] = [
     F, F, F, F, F, F, F, F, F, F, F, F, F, F, F, F,
 ];
 
-/// Which bytes are idchars.
+/// Marks idchars.
 #[rattlefmt::skip]
 pub(crate) static IDCHARS: [bool; 256] = [
     F, F, F, F, F, F, F, F, F, F, F, F, F, F, F, F,
@@ -49,7 +49,7 @@ pub(crate) static IDCHARS: [bool; 256] = [
     F, F, F, F, F, F, F, F, F, F, F, F, F, F, F, F,
 ];
 
-/// Which bytes are decimal digits.
+/// Marks decimal digits.
 #[rattlefmt::skip]
 pub(crate) static DIGITS: [bool; 256] = [
     F, F, F, F, F, F, F, F, F, F, F, F, F, F, F, F,
@@ -70,7 +70,7 @@ pub(crate) static DIGITS: [bool; 256] = [
     F, F, F, F, F, F, F, F, F, F, F, F, F, F, F, F,
 ];
 
-/// Which bytes are hexadecimal digits.
+/// Marks hexadecimal digits.
 #[rattlefmt::skip]
 pub(crate) static HEX_DIGITS: [bool; 256] = [
     F, F, F, F, F, F, F, F, F, F, F, F, F, F, F, F,
@@ -112,7 +112,7 @@ pub(crate) static DIGIT_VALUES: [u8; 256] = [
     36, 36, 36, 36, 36, 36, 36, 36, 36, 36, 36, 36, 36, 36, 36, 36,
 ];
 
-/// Which bytes stand for themselves in a string.
+/// Marks the raw bytes of a string: bytes that spell themselves, without an escape.
 #[rattlefmt::skip]
 pub(crate) static RAW: [bool; 256] = [
     F, F, F, F, F, F, F, F, F, F, F, F, F, F, F, F,
@@ -133,7 +133,7 @@ pub(crate) static RAW: [bool; 256] = [
     T, T, T, T, T, T, T, T, T, T, T, T, T, T, T, T,
 ];
 
-/// Which bytes end no line.
+/// Marks all bytes except the ends of a line, LF and CR.
 #[rattlefmt::skip]
 pub(crate) static IN_LINE: [bool; 256] = [
     T, T, T, T, T, T, T, T, T, T, F, T, T, F, T, T,
@@ -154,7 +154,7 @@ pub(crate) static IN_LINE: [bool; 256] = [
     T, T, T, T, T, T, T, T, T, T, T, T, T, T, T, T,
 ];
 
-/// Which bytes neither begin the `(;` nor the `;)` of a block comment.
+/// Marks all bytes except `(` and `;`, which begin the `(;` and the `;)` of block comments.
 #[rattlefmt::skip]
 pub(crate) static IN_COMMENT: [bool; 256] = [
     T, T, T, T, T, T, T, T, T, T, T, T, T, T, T, T,
@@ -183,7 +183,7 @@ pub(crate) fn is_marked(table: &[bool; 256], b: u8) -> bool
     table[usize::from(b)]
 }
 
-/// How many of four bytes stand before the first that a table doesn't mark.
+/// The number of marked bytes before the first unmarked byte, among the four bytes from `from` on.
 #[inline(always)]
 fn marked_of_four(table: &[bool; 256], text: &[u8], from: usize) -> usize
     requires { from + 4 ≤ length text.now }
@@ -208,8 +208,8 @@ fn marked_of_four(table: &[bool; 256], text: &[u8], from: usize) -> usize
     4
 }
 
-/// Where the bytes that a table marks end.
-// (inlined, the table is known; eight bytes are looked at in a turn, and the length once)
+/// The offset of the first byte from `from` on that the table doesn't mark, or the text's length.
+// Inlining makes the table a constant. Each turn checks up to eight bytes and the length once.
 #[inline(always)]
 pub(crate) fn marked_end(table: &[bool; 256], text: &[u8], from: usize) -> usize
     requires { from ≤ length text.now }
@@ -234,8 +234,8 @@ pub(crate) fn marked_end(table: &[bool; 256], text: &[u8], from: usize) -> usize
     marked_end_near(table, text, i)
 }
 
-/// Where the bytes that a table marks end, by one byte in a turn.
-// Only the last bytes of a text are left to it.
+/// As `marked_end`, with one byte in each turn.
+// `marked_end` calls this function only for the last bytes of a text.
 #[inline(never)]
 fn marked_end_near(table: &[bool; 256], text: &[u8], from: usize) -> usize
     requires { from ≤ length text.now }

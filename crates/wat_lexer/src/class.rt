@@ -12,7 +12,7 @@ use crate::lexeme::Kind;
 use crate::number::Integer;
 use crate::token::Token;
 
-/// Part of a text, which begins and ends with ASCII.
+/// The part of a text from `from` to `end`. Its first and its last byte are ASCII.
 #[inline(always)]
 pub(crate) fn part(text: &str, from: usize, end: usize) -> &str
     requires order { from < end }
@@ -24,7 +24,7 @@ pub(crate) fn part(text: &str, from: usize, end: usize) -> &str
     &text[from..end]
 }
 
-/// The kind of a run of idchars; an annotation is to be put into the side table.
+/// The kind of a run of idchars. The caller puts an annotation into the side table.
 #[tactic(auto, using(crate::proofs::Plain::plain_kinds))]
 pub(crate) fn plain_kind(text: &str, from: usize, end: usize, behind: bool) -> Kind
     requires order { from < end }
@@ -58,7 +58,7 @@ pub(crate) fn plain_kind(text: &str, from: usize, end: usize, behind: bool) -> K
     }
 }
 
-/// The name that a string spells.
+/// The name that a string spells, or `None` if the content is empty or isn't UTF-8.
 #[tactic(auto, using(crate::proofs::Whole::name_steps))]
 fn text_name(content: &[u8]) -> Option<&str>
     ensures { option_map (λ n. n.now) result ≡ text_name (Some content.now) }
@@ -72,7 +72,8 @@ fn text_name(content: &[u8]) -> Option<&str>
     }
 }
 
-/// The token of a run that ends with the one string in it, whose quote is at a place of the run.
+/// The token of a run that ends with its only string. `quote` is the offset of the opening quote in
+/// the run.
 #[tactic(auto, using(crate::proofs::Whole::token_steps))]
 pub(crate) fn string_token<'a>(
     run: &'a str,

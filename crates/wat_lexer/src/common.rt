@@ -1,4 +1,4 @@
-//! The tokens that are common in texts, told by their first byte and by where their bytes end.
+//! Fast recognition of common tokens, by their first byte and the end of their bytes.
 
 ghost use Rattle.std.specs.Prelude.{◌≡◌, ◌+◌, ◌-◌, ◌≤◌, ◌<◌, IfSome, IsTrue, Bool, List, Some};
 ghost use Rattle.std.specs.Prelude.{true, false, length, drop, slice_range, slice_index};
@@ -15,7 +15,7 @@ use crate::lexeme::{Kind, NEAR_LIMIT, WORD_LIMIT};
 use crate::scan::{is_idchar, plain_end};
 use crate::string::raw_end;
 
-/// Whether a byte is at a place.
+/// Whether the byte at offset `at` is `b`.
 #[inline(always)]
 #[tactic(auto, using(crate::proofs::Places::begins_at))]
 fn is_at(text: &[u8], at: usize, b: u8) -> bool
@@ -24,7 +24,7 @@ fn is_at(text: &[u8], at: usize, b: u8) -> bool
     at < text.len() && text[at] == b
 }
 
-/// Whether no run goes on at a place.
+/// Whether a run ends at `at`: the text ends, or the byte at `at` is neither an idchar nor a quote.
 #[inline(always)]
 fn ends_run(text: &[u8], at: usize) -> bool
     ensures ends { IsTrue result → at < length text.now
@@ -39,7 +39,7 @@ fn ends_run(text: &[u8], at: usize) -> bool
     b != b'"' && !is_idchar(b)
 }
 
-/// Where a run of idchars ends that begins at a place; `None` where a string is in the run.
+/// The end of the run of idchars that begins at `at`, or `None` if the run has a string.
 #[inline(always)]
 fn word_end(text: &[u8], at: usize) -> Option<usize>
     requires place { at < length text.now }
@@ -53,8 +53,7 @@ fn word_end(text: &[u8], at: usize) -> Option<usize>
     Some(end)
 }
 
-/// Where an integer of decimal digits alone ends that begins at a place; `None` where the run has
-/// more in it.
+/// The end of the integer at `at` if the run has only decimal digits, otherwise `None`.
 #[inline(always)]
 fn decimal_end(text: &[u8], at: usize) -> Option<usize>
     requires place { at < length text.now }
@@ -69,8 +68,8 @@ fn decimal_end(text: &[u8], at: usize) -> Option<usize>
     Some(end)
 }
 
-/// Where an integer of `0x` and hexadecimal digits alone ends whose `0x` is at a place; `None`
-/// where it has no digit, or the run has more in it.
+/// The end of the integer at `at` if the run has only `0x` and hexadecimal digits, otherwise
+/// `None`. There must be at least one digit.
 #[inline(always)]
 fn hex_end(text: &[u8], at: usize) -> Option<usize>
     requires place { at + 1 < length text.now }
@@ -89,8 +88,8 @@ fn hex_end(text: &[u8], at: usize) -> Option<usize>
     Some(end)
 }
 
-/// Where an integer ends that begins at a place with a digit; `None` where the run has a `_` or
-/// more in it.
+/// The end of the integer at `at` if the run has only decimal digits, or `0x` and hexadecimal
+/// digits, otherwise `None`.
 #[inline(always)]
 fn integer_end(text: &[u8], at: usize) -> Option<usize>
     requires place { at < length text.now }
@@ -104,8 +103,7 @@ fn integer_end(text: &[u8], at: usize) -> Option<usize>
     decimal_end(text, at)
 }
 
-/// Where a string without escapes ends whose quote is at a place; `None` where it is none, or the
-/// run has more in it.
+/// The end of the string at `at` if the run is one string without escapes, otherwise `None`.
 #[inline(always)]
 fn plain_string_end(text: &[u8], at: usize) -> Option<usize>
     requires place { at < length text.now }
@@ -126,8 +124,8 @@ fn plain_string_end(text: &[u8], at: usize) -> Option<usize>
     Some(quote + 1)
 }
 
-/// The end of a word, where it has fewer than 65,536 bytes; what is kept of a token has room for no
-/// more.
+/// The end of a word with fewer than 65,536 bytes. Returns `None` for a longer word, which doesn't
+/// fit in a `Lexeme`.
 #[inline(always)]
 fn short(at: usize, end: usize) -> Option<usize>
     requires { at < end }
@@ -139,9 +137,10 @@ fn short(at: usize, end: usize) -> Option<usize>
     Some(end)
 }
 
-/// The kind and the end of the token in front, where it is a paren, a keyword, an identifier, an
-/// integer without a sign and without `_` or a string without escapes. `None` tells nothing, and is
-/// what any word gets that has 65,536 bytes or more, and any text that has 4 GiB or more.
+/// The kind and the end of the token at `at`, if it is a paren, a keyword, an identifier, an
+/// integer without a sign and without `_`, or a string without escapes. Returns `None` for other
+/// tokens, for words of 65,536 bytes or more, and in texts of 4 GiB or more. After `None` nothing
+/// is known about the text at `at`.
 #[inline(always)]
 pub(crate) fn common_token(text: &[u8], at: usize) -> Option<(Kind, usize)>
     requires { at < length text.now }

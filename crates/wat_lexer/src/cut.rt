@@ -28,18 +28,18 @@ use crate::tokens::{Tokens, read};
 use bumpalo::Bump;
 use std::alloc::{AllocError, Global};
 
-/// The kind of the next token, or `None` for a blank, and the offset in bytes where it ends.
+/// The kind of the next token, or `None` for a blank, and the offset of its end in bytes.
 ///
-/// It is public because definitions of specs/View.antt name it. No public function takes or returns
-/// one.
+/// This type is public because definitions of specs/View.antt name it. No public function takes or
+/// returns a `Piece`.
 #[derive(Clone, Copy, Debug)]
 pub struct Piece {
     pub kind: Option<Kind>,
     pub end: usize,
 }
 
-/// Puts a token into the side table that begins at a place. Answers its kind.
-// Few tokens lie in the side table.
+/// Puts the token at offset `at` into the side table. Returns the kind to store.
+// Few tokens are in the side table, so this function isn't inlined.
 #[inline(never)]
 fn put<'a>(
     token: Token<'a>,
@@ -61,7 +61,7 @@ fn put<'a>(
     }
 }
 
-/// The run in front. What can't be read out of the text is put into the side table.
+/// Reads the run at offset `at`. Puts a token that isn't read from the text into the side table.
 #[tactic(auto, using(crate::proofs::Places::run_steps))]
 fn run<'a>(
     text: &'a str,
@@ -87,7 +87,7 @@ fn run<'a>(
     plain_run(text, at, plain, behind, side_table)
 }
 
-/// A run of idchars. An annotation is put into the side table.
+/// Reads the run of idchars from `at` to `end`. Puts an annotation into the side table.
 #[tactic(auto, using(crate::proofs::Plain::plain_ascii))]
 fn plain_run<'a>(
     text: &'a str,
@@ -119,8 +119,8 @@ fn plain_run<'a>(
     })
 }
 
-/// A run whose first string begins at quote.
-// Inlined it slows the cut of texts without escapes.
+/// Reads the run at offset `at`, whose first string begins at `quote`.
+// Inlining this function slows the cut of texts without escapes.
 #[inline(never)]
 #[tactic(auto, using(crate::proofs::Places::run_steps))]
 fn string_run<'a>(
@@ -171,7 +171,8 @@ fn string_run<'a>(
     })
 }
 
-/// What is in front. What can't be read out of the text is put into the side table.
+/// Reads the blank or token at offset `at`. Puts a token that isn't read from the text into the
+/// side table.
 #[tactic(auto, using(crate::proofs::Places::front_steps))]
 fn front<'a>(
     text: &'a str,
@@ -224,8 +225,8 @@ fn front<'a>(
     }
 }
 
-/// Puts a word into the side table that is between two places. Answers its kind.
-// Few words lie in the side table.
+/// Puts the word from `at` to `end` into the side table. Returns the kind to store.
+// Few words are in the side table, so this function isn't inlined.
 #[inline(never)]
 fn put_word<'a>(
     text: &'a str,
@@ -244,9 +245,9 @@ fn put_word<'a>(
     put(read(text, kind, at, end - at, &[], 0), at, side_table)
 }
 
-/// What is in front. A word for which what is kept of a token has no room is put into the side
-/// table too.
-// What is common is told without it.
+/// Reads the blank or token at offset `at`. Puts a word that doesn't fit in a `Lexeme` into the
+/// side table too.
+// `common_token` finds the common tokens, so this function isn't inlined.
 #[inline(never)]
 fn next_piece<'a>(
     text: &'a str,
@@ -281,7 +282,7 @@ fn next_piece<'a>(
     }
 }
 
-/// Whether an annotation lies in the side table.
+/// Whether the side table has an annotation.
 #[tactic(auto, using(crate::proofs::Entries::annotation_steps))]
 fn any_annotation(side_table: &[SideEntry]) -> bool
     ensures { result ≡ has_annotation (lying side_table.now) }
@@ -294,9 +295,9 @@ fn any_annotation(side_table: &[SideEntry]) -> bool
     false
 }
 
-/// Room for the skips of so many places of the side table, where an annotation lies there. None is
-/// told yet.
-// Inlined it slows the cut.
+/// Empty skips for the indices of the side table. The list has `places` items if the side table has
+/// an annotation (`noted`), otherwise it is empty.
+// Inlining this function slows the cut.
 #[inline(never)]
 fn no_skips(alloc: Global, noted: bool, places: usize) -> Result<Vec<Skips>, AllocError>
     ensures none { IfOk result (λ v. (i : ℕ) → lying_skips v.items i ≡ no_skips) }
@@ -306,14 +307,15 @@ fn no_skips(alloc: Global, noted: bool, places: usize) -> Result<Vec<Skips>, All
     vec![in alloc; Skips { all: 0, unknown: 0 }; count]
 }
 
-/// Whether a `(` is directly before a place, by where the last one ends, or 0 where there is none.
+/// Whether a `(` ends at offset `at`. `opened` is the end of the last `(`, or 0 if no `(` was read.
 fn directly(opened: usize, at: usize) -> bool
     ensures { result ≡ ((at == opened) && nat_lt 0 at) }
 {
     at == opened && at > 0
 }
 
-/// Where the last `(` ends, behind a token of the kind.
+/// The end of the last `(`, after a token of this kind that ends at `end`. `opened` is the end of
+/// the last `(` before this token.
 fn last_opened(kind: Kind, end: usize, opened: usize) -> usize
     ensures { (text : List ℕ) (side_table : List Placed) (at : ℕ)
         → FoundFits text side_table at end kind
@@ -322,7 +324,7 @@ fn last_opened(kind: Kind, end: usize, opened: usize) -> usize
     if is_open(kind) { end } else { opened }
 }
 
-/// Cuts a text into pieces. The flag says whether an annotation is among the tokens.
+/// Cuts a text into tokens. The flag is true if a token is an annotation. Groups may be unclosed.
 fn cut_pieces<'a>(
     alloc: Global,
     text: &'a str,
@@ -369,7 +371,7 @@ fn cut_pieces<'a>(
 }
 
 /// Cuts a text into tokens. Each annotation group must be closed. Names and strings without escapes
-/// are slices of the text. The others are decoded into the arena.
+/// are slices of the text. Names and strings with escapes are decoded into the arena.
 ///
 /// Errors are LexChar, LexString, LexComment, LexAnnotation and Memory, with the offsets that
 /// [`Fault`] states. A text of 2^48 bytes or more gets Memory: offsets are stored in 48 bits.
@@ -377,7 +379,8 @@ fn cut_pieces<'a>(
 pub fn cut<'a>(alloc: Global, text: &'a str, arena: &'a Bump) -> Result<Tokens<'a>, Error>
     ensures found { IfOk result (λ ts. IsCut text.now (placed ts)) }
     ensures skips { IfOk result (λ ts. AreSkips ts) }
-    // The fault is the text's first from the left.
+    // The fault is the text's first from the left. LexAnnotation comes only without any other
+    // fault.
     ensures fault { IfErr result (λ e. IfFault e (FirstFault text.now e.fault (offset_of e.span))) }
     ensures none { IfErr result (λ e. IfFault e ((ts : List Placed) → IsCut text.now ts → ⊥)) }
 {

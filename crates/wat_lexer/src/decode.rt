@@ -10,15 +10,15 @@ use crate::string::{Escaped, escape, raw_end};
 use bumpalo::Bump;
 use std::alloc::{AllocError, Global};
 
-/// Decodes strings that have escapes. The arena holds what they spell.
+/// Decodes strings with escapes into the arena.
 #[derive(Drop)]
 pub(crate) struct Decoder<'a> {
     arena: &'a Bump,
-    /// What the last string with escapes spells.
+    /// The decoded content of the last string with escapes.
     buffer: Vec<u8>,
 }
 
-/// Adds what an escape stands for.
+/// Appends the bytes that an escape spells.
 #[inline(always)]
 fn put_escaped(out: &mut Vec<u8>, escaped: Escaped) -> Result<(), AllocError>
     ensures { OnOk result (out.new.items ≡ out.old.items ++ spelled escaped) }
@@ -30,9 +30,9 @@ fn put_escaped(out: &mut Vec<u8>, escaped: Escaped) -> Result<(), AllocError>
     Ok(())
 }
 
-/// Adds what the rest of a string spells, from a place on at which no byte stands for itself.
-/// Answers the place behind its closing quote.
-// Inlined it slows the cut of texts without strings.
+/// Appends the content of the rest of a string from `from` on, where the next byte isn't raw.
+/// Returns the offset after the closing quote, or `None` if the string is invalid.
+// Inlining this function slows the cut of texts without strings.
 #[inline(never)]
 #[tactic(auto, using(crate::proofs::Steps::content_steps))]
 fn decode(text: &[u8], from: usize, out: &mut Vec<u8>) -> Result<Option<usize>, AllocError>
@@ -66,8 +66,9 @@ impl<'a> Decoder<'a> {
         }
     }
 
-    /// Where a string ends, from behind its opening quote on, and whether its content is the bytes
-    /// between the quotes; the buffer has it otherwise.
+    /// Returns the offset after a string's closing quote, or `None` if the string is invalid.
+    /// `from` is the offset after the opening quote. The flag is true if the content is the bytes
+    /// between the quotes. If it is false, the buffer has the content.
     #[tactic(auto, using(crate::proofs::Steps::quote_steps))]
     pub fn string_end(
         &mut self,
@@ -97,7 +98,7 @@ impl<'a> Decoder<'a> {
         }
     }
 
-    /// The content of the string whose end was found last.
+    /// The content of the string that `string_end` found last.
     pub fn content(
         &self,
         text: &'a [u8],

@@ -25,7 +25,7 @@ pub enum Fault {
     /// An annotation group that isn't closed. The offset is that of the `(` of the first such
     /// group.
     LexAnnotation = 5,
-    /// A token other than the expected one. The offset is that of the token, or the text's length
+    /// A token other than the expected token. The offset is that of the token, or the text's length
     /// if the text ends there.
     Unexpected = 6,
     /// A number out of range. The offset is that of its token.
@@ -72,7 +72,7 @@ impl Fault {
         self as u8
     }
 
-    /// Returns the name of the fault, which is that of the variant.
+    /// Returns the name of the fault: the name of its variant.
     pub fn name(self) -> &'static str
         ensures { result.now ≡ fault_name self }
     {

@@ -1,4 +1,4 @@
-//! Where the groups of annotations end.
+//! The ends of annotation groups.
 
 ghost use Rattle.std.specs.Prelude.{◌≡◌, ◌+◌, ◌-◌, ◌≤◌, ◌<◌, Bool, true, false, IfOk};
 ghost use Rattle.std.specs.Prelude.{MatchOption, length, drop};
@@ -12,8 +12,7 @@ use crate::lexeme::Skips;
 use crate::tokens::Tokens;
 use std::alloc::{AllocError, Global};
 
-/// Tells the group of an annotation that begins at a place and ends before another how many tokens
-/// are left out there.
+/// Stores the skips of the annotation group from index `at` to index `end`.
 fn tell_skip(tokens: &mut Tokens, at: usize, end: usize)
     requires begins { begins_hidden_group false (toks (drop at tokens.old)) ≡ true }
     requires order { at < end }
@@ -30,8 +29,8 @@ fn tell_skip(tokens: &mut Tokens, at: usize, end: usize)
     tokens.set_skips(at + 1, Skips { all, unknown });
 }
 
-/// Tells each group of an annotation how many tokens are left out where it stands. Answers the
-/// offset of the first one that isn't closed.
+/// Stores the skips of all annotation groups. Returns the offset, in bytes, of the first annotation
+/// group that isn't closed, or `None` if all are closed.
 pub(crate) fn tell_skips(alloc: Global, tokens: &mut Tokens) -> Result<Option<usize>, AllocError>
     ensures same { placed tokens.new ≡ placed tokens.old }
     ensures skips { IfOk result (λ o. AreSkips tokens.new) }

@@ -1,4 +1,4 @@
-//! Which tokens are visible: annotation groups that aren't known are hidden.
+//! Visible tokens. A group is hidden if it begins with an annotation that isn't known.
 
 ghost use Rattle.std.specs.Prelude.{◌≡◌, ◌≤◌, ◌+◌, ◌∷◌, [], length, drop};
 ghost use Rattle.wat_lexer.specs.Sight.{is_standard, begins_hidden_group, hidden_count};
@@ -9,7 +9,7 @@ ghost use Rattle.wat_lexer.specs.View.{IsNextVisible, most_items};
 use crate::token::Token;
 use crate::tokens::Tokens;
 
-/// Whether it is one of the five names: `custom`, `producers`, `name`, `dylink.0`,
+/// Whether the name is one of the five standard names: `custom`, `producers`, `name`, `dylink.0`,
 /// `metadata.code.branch_hint`.
 fn is_standard(name: &str) -> bool
     ensures { result ≡ is_standard name.now }
@@ -21,8 +21,8 @@ fn is_standard(name: &str) -> bool
         || name == "metadata.code.branch_hint"
 }
 
-/// Whether the two tokens begin a group whose annotation isn't known.
-// Few groups begin with an annotation.
+/// Whether the two tokens begin a hidden group: a `(` and an annotation that isn't known.
+// Few groups begin with an annotation, so this function isn't inlined.
 #[inline(never)]
 fn begins_hidden(first: Token, second: Token, known: bool) -> bool
     ensures { result ≡ begins_hidden_group known (view first.entry ∷ view second.entry ∷ []) }
@@ -36,7 +36,7 @@ fn begins_hidden(first: Token, second: Token, known: bool) -> bool
     }
 }
 
-/// Whether a group whose annotation isn't known is at the place.
+/// Whether a hidden group begins at index `at`.
 #[tactic(auto, using(crate::specs::Laws::Hidden::begins_hidden_steps))]
 #[inline(always)]
 pub(crate) fn begins_hidden_group(tokens: &Tokens, at: usize, known: bool) -> bool
@@ -52,7 +52,8 @@ pub(crate) fn begins_hidden_group(tokens: &Tokens, at: usize, known: bool) -> bo
     }
 }
 
-/// How far the tokens tell to go from an annotation's group at the place.
+/// The skip stored with the token after index `at`, or 0 if no token follows. A skip is the number
+/// of tokens that lookups skip from the `(` on.
 fn skip_in_front(tokens: &Tokens, at: usize, known: bool) -> usize
     requires { at ≤ length tokens.now }
     ensures { result ≡ skip_in_front known (drop at tokens.now) }
@@ -65,8 +66,8 @@ fn skip_in_front(tokens: &Tokens, at: usize, known: bool) -> usize
     }
 }
 
-/// How many tokens stand from a place on before the first that is visible. It takes the same time
-/// however many are hidden.
+/// The number of hidden tokens from index `at` up to the first visible token. The time doesn't
+/// depend on this number.
 #[tactic(auto, using(crate::proofs::Skips::hidden_count_none))]
 #[inline(always)]
 pub(crate) fn hidden_count(tokens: &Tokens, at: usize, known: bool) -> usize
@@ -88,10 +89,11 @@ pub(crate) fn hidden_count(tokens: &Tokens, at: usize, known: bool) -> usize
     }
 }
 
-/// Returns the index of the first visible token from an index on, or the number of tokens if none is
-/// visible. An annotation group is hidden unless its annotation is known: with `known` these are the
-/// five standard ones, without it none. The time doesn't depend on how many tokens are hidden.
-/// WebAssembly Core Specification, Text Format, Lexical Format, Annotations.
+/// Returns the index of the first visible token from an index on, or the number of tokens if no
+/// visible token follows. An annotation group is hidden unless its annotation is known. If `known`
+/// is true, the five standard annotations are known, otherwise no annotation is known. The time
+/// doesn't depend on the number of hidden tokens. WebAssembly Core Specification, Text Format,
+/// Lexical Format, Annotations.
 #[inline(always)]
 #[tactic(auto, using(crate::proofs::Skips::skips_drop))]
 pub fn next_visible(tokens: &Tokens, at: usize, known: bool) -> usize

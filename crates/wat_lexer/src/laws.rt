@@ -3,8 +3,8 @@
 ghost use Rattle.wat_lexer.specs.Rows.{Comments, Strings, QuotedNames, Spoiled, Integers, Values};
 ghost use Rattle.wat_lexer.specs.Rows.{HiddenGroups, Faults, UnclosedGroup};
 
-/// Example texts with their tokens, their hidden groups and their faults, as facts about the
-/// definitions alone. An error that the code and its definition share would show here.
+/// Example texts with their tokens, their hidden groups and their faults. The clauses name only the
+/// definitions. An error that the code and its definition share would show here.
 pub fn cut_rows()
     ensures comments { Comments }
     ensures strings { Strings }

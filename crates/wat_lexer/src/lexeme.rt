@@ -1,13 +1,14 @@
-//! What is kept of a token: its kind, and where it stands.
+//! Stored tokens: their kinds and their places.
 
 ghost use Rattle.std.specs.Prelude.{◌≡◌, ◌<◌, ◌≤◌, ◌+◌, List, ℕ, length, true, false, IsTrue, ◌↔◌};
 ghost use Rattle.wat_lexer.specs.Token.{Placed, is_open};
 ghost use Rattle.wat_lexer.specs.View.{found_tok, is_annotation_kind, is_word, wide, own_number};
 ghost use Rattle.wat_lexer.specs.View.{FoundFits, HasRoom, WasKept, near_limit, text_limit};
 
-/// The kind of a stored token: how to read it from the text, or that the side table has it.
+/// The kind of a stored token: how to read the token from the text, or that it is in the side
+/// table.
 ///
-/// It is public because definitions of specs/View.antt name it.
+/// This type is public because definitions of specs/View.antt name it.
 #[derive(Clone, Copy, Debug)]
 pub enum Kind {
     /// `)`
@@ -20,29 +21,29 @@ pub enum Kind {
     Integer,
     /// The run is a string without escapes.
     String,
-    /// The run is of idchars, and spells nothing.
+    /// The run has only idchars, and is a reserved token.
     Reserved,
     /// `(`
     LParen,
-    /// The token lies in the side table, an annotation.
+    /// The token is an annotation in the side table.
     Annotation,
-    /// The token lies in the side table and is none.
+    /// The token is in the side table and isn't an annotation.
     InSideTable,
 }
 
-/// How many tokens are left out from the `(` of an annotation's group on.
+/// The number of tokens that lookups skip from the `(` of an annotation's group on.
 #[derive(Clone, Copy, Debug)]
 pub struct Skips {
-    /// Where no annotation is known.
+    /// The number if no annotation is known.
     pub all: usize,
-    /// Where the five standard names are.
+    /// The number if the five standard annotations are known.
     pub unknown: usize,
 }
 
 impl Skips {
     ghost use Rattle.wat_lexer.specs.View.{skip};
 
-    /// How many it is where the standard names are known or none is.
+    /// Returns `unknown` if the five standard annotations are known, otherwise `all`.
     pub(crate) fn told(self, known: bool) -> usize
         ensures { result ≡ skip known self }
     {
@@ -50,45 +51,47 @@ impl Skips {
     }
 }
 
-/// A stored token. Its number is its offset in bytes, or, if the side table has it, its index there.
+/// A stored token. The number of a token is its index in the side table, or, for a token that isn't
+/// there, its offset in bytes.
 ///
-/// It is public because definitions of specs/View.antt name it, and a benchmark measures its size.
+/// This type is public because definitions of specs/View.antt name it, and a benchmark measures its
+/// size.
 #[derive(Clone, Copy, Debug)]
 pub struct Lexeme {
-    /// A word's number; of any other token the lower 32 bits of its number.
+    /// The number of a word, or the lower 32 bits of any other token's number.
     low: u32,
-    /// How many bytes a word has; of any other token the upper 16 bits of its number.
+    /// The length of a word in bytes, or the upper 16 bits of any other token's number.
     size: u16,
     pub kind: Kind,
 }
 
 const _: () = prove!(size_of::<Lexeme>() == 8);
 
-/// A word of so many bytes or more lies in the side table.
+/// A word of this many bytes or more is put into the side table.
 pub(crate) const WORD_LIMIT: usize = 0x1_0000;
 
-/// A number below this fits in 32 bits; the upper part of a number is counted in units of it.
+/// Numbers below this fit in 32 bits. The upper part of a number counts multiples of this.
 pub(crate) const NEAR_LIMIT: usize = 0x1_0000_0000;
 
-/// A text of so many bytes or more is refused.
+/// A text of this many bytes or more is refused.
 pub(crate) const TEXT_LIMIT: usize = 0x1_0000_0000_0000;
 
 impl Lexeme {
-    /// How many bytes of the text stand before it, where it is a word.
+    /// The offset of a word, in bytes. The token must be a word.
     pub(crate) fn word_at(self) -> usize
         ensures { result ≡ self.low }
     {
         self.low as usize
     }
 
-    /// How many bytes it has, where it is a word.
+    /// The length of a word, in bytes. The token must be a word.
     pub(crate) fn size(self) -> usize
         ensures { result ≡ self.size }
     {
         self.size as usize
     }
 
-    /// Its number, where it is none.
+    /// The number of a token that isn't a word.
     pub(crate) fn number(self) -> usize
         ensures { result ≡ wide self.low self.size }
     {
@@ -96,7 +99,7 @@ impl Lexeme {
     }
 }
 
-/// Whether a token of the kind is `(`.
+/// Whether tokens of this kind are `(`.
 pub(crate) fn is_open(kind: Kind) -> bool
     ensures { (text : List ℕ) (side_table : List Placed) (at end : ℕ)
         → FoundFits text side_table at end kind
@@ -105,14 +108,14 @@ pub(crate) fn is_open(kind: Kind) -> bool
     matches!(kind, Kind::LParen)
 }
 
-/// Whether a token of the kind is an annotation.
+/// Whether tokens of this kind are annotations.
 pub(crate) fn is_annotation_kind(kind: Kind) -> bool
     ensures { result ≡ is_annotation_kind kind }
 {
     matches!(kind, Kind::Annotation)
 }
 
-/// Whether a token of the kind is read out of the text, and no paren.
+/// Whether tokens of this kind are words: they are read from the text and aren't parens.
 pub(crate) fn is_word(kind: Kind) -> bool
     ensures { result ≡ is_word kind }
 {
@@ -122,7 +125,7 @@ pub(crate) fn is_word(kind: Kind) -> bool
     )
 }
 
-/// Whether what is kept of a token has room for a word between two places.
+/// Whether the word from `at` to `end` fits in a `Lexeme`.
 pub(crate) fn has_room(at: usize, end: usize) -> bool
     requires { at < end }
     ensures { IsTrue result ↔ HasRoom at end }
@@ -130,7 +133,7 @@ pub(crate) fn has_room(at: usize, end: usize) -> bool
     at < NEAR_LIMIT && end - at < WORD_LIMIT
 }
 
-/// A kind and a number.
+/// Stores a kind and a number.
 pub(crate) fn split(kind: Kind, number: usize) -> Lexeme
     requires { number < text_limit }
     ensures number { wide result.low result.size ≡ number }
@@ -143,7 +146,7 @@ pub(crate) fn split(kind: Kind, number: usize) -> Lexeme
     }
 }
 
-/// What is kept of a token that is no word, by its number.
+/// Stores a token that isn't a word, by its number.
 fn numbered(kind: Kind, number: usize) -> Lexeme
     requires no_word { is_word kind ≡ false }
     requires fits { number < text_limit }
@@ -153,7 +156,7 @@ fn numbered(kind: Kind, number: usize) -> Lexeme
     split(kind, number)
 }
 
-/// What is kept of a word between two places of a text.
+/// Stores the word from `at` to `end`.
 fn word(kind: Kind, at: usize, end: usize) -> Lexeme
     requires order { at < end }
     requires room { HasRoom at end }
@@ -169,8 +172,8 @@ fn word(kind: Kind, at: usize, end: usize) -> Lexeme
     }
 }
 
-/// What is kept of a token between two places of a text, where so many lie in the side table; where
-/// it lies in the side table, it is the last there.
+/// Stores the token from `at` to `end`. The side table has `side_table` items. If the token is in
+/// the side table, it is the last item.
 pub(crate) fn kept(kind: Kind, at: usize, end: usize, side_table: usize) -> Lexeme
     requires order { at < end }
     requires room { is_word kind ≡ true → HasRoom at end }
@@ -186,7 +189,7 @@ pub(crate) fn kept(kind: Kind, at: usize, end: usize, side_table: usize) -> Lexe
     }
 }
 
-/// What is kept of a paren in a text's first 4 GiB.
+/// Stores a paren in the first 4 GiB of a text.
 fn near_paren(kind: Kind, at: usize) -> Lexeme
     requires near { at < near_limit }
     requires no_word { is_word kind ≡ false }
@@ -197,7 +200,7 @@ fn near_paren(kind: Kind, at: usize) -> Lexeme
     Lexeme { low, size: 0, kind }
 }
 
-/// What is kept of a token between two places of a text's first 4 GiB. There a paren's number isn't
+/// Stores the token from `at` to `end` in the first 4 GiB of a text. The number of a paren isn't
 /// split.
 #[inline(always)]
 pub(crate) fn kept_near(kind: Kind, at: usize, end: usize, side_table: usize) -> Lexeme

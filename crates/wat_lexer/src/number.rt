@@ -28,8 +28,8 @@ pub struct Integer<'a> {
 impl<'a> Integer<'a> {
     ghost use Rattle.wat_lexer.specs.Integer.{text_of};
 
-    /// Returns the text as an integer literal, or `None` if the whole text isn't one (WebAssembly
-    /// Core Specification, Text Format, Values, Integers).
+    /// Returns the text as an integer literal, or `None` if the whole text isn't an integer literal
+    /// (WebAssembly Core Specification, Text Format, Values, Integers).
     pub fn of(text: &'a str) -> Option<Integer<'a>>
         ensures whole { is_some result ≡ is_integer text.now }
         ensures same { IfSome result (λ i. text_of i ≡ text.now) }
@@ -41,7 +41,7 @@ impl<'a> Integer<'a> {
         }
     }
 
-    /// The integer of a text that is one.
+    /// Wraps a text that is an integer literal.
     pub(crate) fn over(text: &'a str) -> Integer<'a>
         ensures { text_of result ≡ text.now }
     {
@@ -55,7 +55,7 @@ impl<'a> Integer<'a> {
         self.text
     }
 
-    /// Returns the sign, or `None` if the literal has none.
+    /// Returns the sign, or `None` if the literal has no sign.
     pub fn sign(self) -> Option<Sign>
         ensures { result ≡ sign_of (text_of self.entry) }
     {
@@ -99,7 +99,7 @@ impl<'a> Integer<'a> {
     }
 }
 
-/// Half of the numbers of so many bits: the first that is negative by two's complement.
+/// 2^(bits - 1): the first number of `bits` bits that is negative by two's complement.
 fn half_range(bits: u32) -> u64
     requires { IsTrue (is_width bits) }
     ensures value { result ≡ 2 ^ (bits - 1) }
@@ -118,7 +118,7 @@ fn half_range(bits: u32) -> u64
     }
 }
 
-/// The signed number that has the same bits.
+/// The signed number that has the same bits as `value`.
 fn twos_complement(bits: u32, value: u64) -> i64
     requires width { IsTrue (is_width bits) }
     requires fits { value < 2 ^ bits }
@@ -143,7 +143,7 @@ fn negative(magnitude: u64) -> i64
     }
 }
 
-/// The value behind the sign, where it is at most the limit.
+/// The value after the sign, or `None` if the value is above the limit.
 #[tactic(auto, using(crate::proofs::Plain::hex_after))]
 fn magnitude_up_to(text: &[u8], limit: u64) -> Option<u64>
     ensures value { result ≡ up_to limit (magnitude (without_sign text.now)) }
@@ -157,7 +157,7 @@ fn magnitude_up_to(text: &[u8], limit: u64) -> Option<u64>
     }
 }
 
-/// The value of a number's digits and one more behind them, where it is at most the limit.
+/// The value of a number with one more digit, or `None` if the value is above the limit.
 fn with_digit(value: u64, base: u8, digit: u8, limit: u64) -> Option<u64>
     ensures { MatchOption result (limit < value * base + digit) (λ n. (n ≡ value * base + digit)
         × (n ≤ limit)) }
@@ -170,8 +170,8 @@ fn with_digit(value: u64, base: u8, digit: u8, limit: u64) -> Option<u64>
     Some(found)
 }
 
-/// The value of digits of the base, with single underscores between them, from there on, where it
-/// is at most the limit.
+/// The value of the digits of the base from `from` on, with single underscores between digits.
+/// Returns `None` if the value is above the limit, or the text from `from` on isn't such digits.
 #[tactic(auto, using(crate::proofs::Values::value_steps))]
 fn number_up_to(text: &[u8], from: usize, base: u8, limit: u64) -> Option<u64>
     requires within { from ≤ length text.now }
@@ -216,7 +216,7 @@ fn sign_of(text: &[u8]) -> Option<Sign>
     }
 }
 
-/// How many bytes the sign takes.
+/// The length of the sign in bytes: 0 or 1.
 fn sign_length(text: &[u8]) -> usize
     ensures within { result ≤ length text.now }
     ensures rest { drop result text.now ≡ without_sign text.now }
@@ -254,7 +254,7 @@ fn is_magnitude(text: &[u8], from: usize) -> bool
     }
 }
 
-/// Whether the text from there on is digits of the base, with single underscores between them.
+/// Whether the text from `from` on is digits of the base, with single underscores between digits.
 #[tactic(auto, using(crate::proofs::Plain::number_steps))]
 fn is_number(text: &[u8], from: usize, base: u8) -> bool
     requires { from ≤ length text.now }

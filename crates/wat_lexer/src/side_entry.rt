@@ -1,4 +1,4 @@
-//! What lies in the side table.
+//! The side table: tokens that aren't read from the text.
 
 ghost use Rattle.std.specs.Prelude.{◌≡◌, ◌<◌};
 ghost use Rattle.std.specs.Str.{IsUtf8};
@@ -10,13 +10,13 @@ use crate::number::Integer;
 use crate::token::Token;
 use std::marker::Model;
 
-/// A token that isn't read out of the text, and how many bytes of the text stand before it.
+/// A token that isn't read from the text, and its offset in bytes.
 #[derive(Drop)]
 pub struct SideEntry<'a> {
-    /// The content of a string, the name of an identifier or an annotation, the text of any other
-    /// token.
+    /// The content of a string, the name of an identifier or an annotation, or the text of any
+    /// other token.
     content: &'a [u8],
-    /// The token's kind, and how many bytes of the text stand before it.
+    /// The token's kind, and its offset in bytes.
     lexeme: Lexeme,
 }
 
@@ -37,7 +37,7 @@ impl<'a> Model for SideEntry<'a> {
     ghost invariant = { λ e. IsContent e.lexeme.kind e.content.now };
 }
 
-/// The token of a kind, by its text or its name.
+/// Builds a token of a kind from its text or its name.
 fn token_of(kind: Kind, text: &str) -> Token
     ensures { view result ≡ tok_of kind text.now }
 {
@@ -54,7 +54,7 @@ fn token_of(kind: Kind, text: &str) -> Token
 }
 
 impl<'a> SideEntry<'a> {
-    /// A token of a kind, by its text or its name, at an offset.
+    /// Builds the entry of a token at an offset in bytes, from its kind and its text or name.
     fn with_text(kind: Kind, text: &'a str, offset: usize) -> SideEntry<'a>
         requires { offset < text_limit }
         ensures { result ≡ record { token = tok_of kind text.now; offset = offset } }
@@ -65,7 +65,7 @@ impl<'a> SideEntry<'a> {
         }
     }
 
-    /// A token at an offset.
+    /// Builds the entry of a token at an offset in bytes.
     pub(crate) fn of(token: Token<'a>, offset: usize) -> SideEntry<'a>
         requires { offset < text_limit }
         ensures { result ≡ record { token = view token.entry; offset = offset } }
@@ -86,7 +86,7 @@ impl<'a> SideEntry<'a> {
     }
 
     /// The token.
-    // Few tokens lie in the side table.
+    // Few tokens are in the side table, so this function isn't inlined.
     #[inline(never)]
     pub(crate) fn token(&self) -> Token<'a>
         ensures { view result ≡ self.now.token }
@@ -97,14 +97,14 @@ impl<'a> SideEntry<'a> {
         }
     }
 
-    /// How many bytes of the text stand before it.
+    /// The token's offset, in bytes from the start of the text.
     pub(crate) fn offset(&self) -> usize
         ensures { result ≡ self.now.offset }
     {
         self.lexeme.number()
     }
 
-    /// Whether it is an annotation.
+    /// Whether the token is an annotation.
     pub(crate) fn annotates(&self) -> bool
         ensures { result ≡ is_annotation self.now.token }
     {
@@ -112,7 +112,7 @@ impl<'a> SideEntry<'a> {
     }
 }
 
-/// The text that bytes are.
+/// The text of bytes that are UTF-8.
 fn text(content: &[u8]) -> &str
     requires { IsUtf8 content.now }
     ensures { result.now ≡ content.now }

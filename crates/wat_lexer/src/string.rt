@@ -10,10 +10,10 @@ ghost use Rattle.wat_lexer.specs.Scan.{Escape, Digits};
 
 use crate::byte_table::{DIGIT_VALUES, RAW, marked_end};
 
-/// The bytes that an escape in a string stands for.
+/// The bytes that an escape in a string spells.
 ///
-/// It is public because definitions of specs/Scan.antt name it. No public function takes or returns
-/// one.
+/// This type is public because definitions of specs/Scan.antt name it. No public function takes or
+/// returns an `Escaped`.
 #[derive(Clone, Copy, Drop)]
 pub enum Escaped {
     /// One byte.
@@ -46,7 +46,7 @@ pub fn hex_digit(value: u8) -> u8
     }
 }
 
-/// What a backslash and this letter stand for.
+/// The byte that a backslash and this letter spell, or `None` if they aren't an escape.
 fn short_escape(b: u8) -> Option<u8>
     ensures { result ≡ short_escape b }
 {
@@ -59,7 +59,7 @@ fn short_escape(b: u8) -> Option<u8>
     }
 }
 
-/// Where the bytes of a string that stand for themselves end.
+/// The offset of the first byte from `from` on that isn't raw, or the text's length.
 pub(crate) fn raw_end(text: &[u8], from: usize) -> usize
     requires { from ≤ length text.now }
     ensures within { (from ≤ result) × (result ≤ length text.now) }
@@ -70,7 +70,8 @@ pub(crate) fn raw_end(text: &[u8], from: usize) -> usize
     marked_end(&RAW, text, from)
 }
 
-/// The character whose code point is behind `\u{`, and the place behind its `}`.
+/// The character of a `\u{..}` escape, and the offset after its `}`. `from` is the offset after the
+/// `{`. Returns `None` if the escape is invalid.
 #[tactic(auto, using(crate::proofs::Steps::digits_steps))]
 fn code_point(text: &[u8], from: usize) -> Option<(char, usize)>
     requires { from ≤ length text.now }
@@ -108,7 +109,8 @@ fn code_point(text: &[u8], from: usize) -> Option<(char, usize)>
     None
 }
 
-/// What is behind a backslash, and the place behind it.
+/// The value of an escape, and the offset after the escape. `at` is the offset after the backslash.
+/// Returns `None` if the escape is invalid.
 #[inline(always)]
 #[tactic(auto, using(crate::proofs::Steps::escape_steps))]
 fn behind_backslash(text: &[u8], at: usize) -> Option<(Escaped, usize)>
@@ -148,7 +150,8 @@ fn behind_backslash(text: &[u8], at: usize) -> Option<(Escaped, usize)>
     }
 }
 
-/// What the escape that begins at a place stands for, and the place behind it.
+/// The value of the escape at `at`, and the offset after the escape. Returns `None` if no valid
+/// escape is at `at`.
 #[inline(always)]
 #[tactic(auto, using(crate::proofs::Steps::closing_steps))]
 pub(crate) fn escape(text: &[u8], at: usize) -> Option<(Escaped, usize)>
@@ -166,7 +169,8 @@ pub(crate) fn escape(text: &[u8], at: usize) -> Option<(Escaped, usize)>
     }
 }
 
-/// Where a string ends, from behind its opening quote on.
+/// The offset after a string's closing quote, or `None` if the string is invalid. `from` is the
+/// offset after the opening quote.
 #[tactic(auto, using(crate::proofs::Steps::string_steps))]
 pub(crate) fn string_end(text: &[u8], from: usize) -> Option<usize>
     requires { from ≤ length text.now }

@@ -2,8 +2,9 @@
 
 use crate::number::Integer;
 
-/// A token of a text (WebAssembly Core Specification, Text Format, Lexical Format, Tokens). Names and
-/// strings without escapes are slices of the text. The arena has the others, decoded.
+/// A token of a text (WebAssembly Core Specification, Text Format, Lexical Format, Tokens). Names
+/// and strings without escapes are slices of the text. Names and strings with escapes are decoded,
+/// and are slices of the arena.
 #[derive(Clone, Copy, Debug)]
 pub enum Token<'a> {
     /// `(`

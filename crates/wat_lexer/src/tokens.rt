@@ -14,15 +14,15 @@ use crate::side_entry::SideEntry;
 use crate::token::Token;
 use std::marker::Model;
 
-/// The tokens of a text, each with its place, in 8 bytes. What can be read out of the text is,
-/// whenever it is asked for; the rest lies in the side table, and with an annotation how far
-/// lookups go from its group.
+/// The tokens of a text with their offsets. Each token takes 8 bytes, and is read from the text
+/// whenever it is requested. Tokens that aren't read from the text are in a side table. For each
+/// annotation, the number of tokens that lookups skip at its group is stored too.
 #[derive(Drop)]
 pub struct Tokens<'a> {
     text: &'a str,
     lexemes: Vec<Lexeme>,
     side_table: Vec<SideEntry<'a>>,
-    /// How far lookups go, at the annotations' places in the side table.
+    /// The skips of annotation groups, by the index of the annotation in the side table.
     skips: Vec<Skips>,
 }
 
@@ -41,7 +41,7 @@ impl<'a> Model for Tokens<'a> {
 }
 
 impl<'a> Tokens<'a> {
-    /// The tokens that were kept of a text.
+    /// Builds the tokens of a text from their stored parts.
     pub(crate) fn of(
         text: &'a str,
         lexemes: Vec<Lexeme>,
@@ -96,7 +96,7 @@ impl<'a> Tokens<'a> {
     }
 
     /// Returns the token at an index.
-    // What asks for it needs one of its kinds, and inlined no other is made.
+    // Inlining leaves out the kinds of tokens that the caller doesn't need.
     #[inline(always)]
     pub fn token(&self, at: usize) -> Token<'a>
         requires { at < length self.now }
@@ -126,8 +126,9 @@ impl<'a> Tokens<'a> {
         }
     }
 
-    /// How far lookups go from the `(` in front of it, where the standard names are known or none
-    /// is.
+    /// The number of tokens that lookups skip from the `(` before the annotation at index `at` on.
+    /// Returns 0 if the token at `at` isn't an annotation. If `known` is true, the five standard
+    /// annotations are known, otherwise no annotation is known.
     pub(crate) fn skip(&self, at: usize, known: bool) -> usize
         requires { at < length self.now }
         ensures { result ≡ skip known (get_or self.now at no_entry).skips }
@@ -139,7 +140,7 @@ impl<'a> Tokens<'a> {
         }
     }
 
-    /// Tells how far lookups go from the `(` in front of an annotation.
+    /// Stores how many tokens lookups skip from the `(` before the annotation at index `at` on.
     pub(crate) fn set_skips(&mut self, at: usize, skips: Skips)
         requires place { at < length self.old }
         requires annotates { is_annotation ((get_or self.old at no_entry).token) ≡ true }
@@ -150,7 +151,7 @@ impl<'a> Tokens<'a> {
     }
 }
 
-/// The rest of a run of idchars behind so many bytes.
+/// The run from `from` to `end`, without its first `front` bytes.
 #[inline(always)]
 #[tactic(auto, using(crate::proofs::Plain::plain_ascii))]
 fn word<'a>(text: &'a str, from: usize, front: usize, end: usize) -> &'a str
@@ -160,8 +161,8 @@ fn word<'a>(text: &'a str, from: usize, front: usize, end: usize) -> &'a str
     part(text, from + front, end)
 }
 
-/// The token of a kind: a word is read out of the text, from a place on and of so many bytes; what
-/// lies in the side table is at another place there.
+/// Reads the token of a kind. A word is read from the text: `size` bytes from `from` on. Any other
+/// token except a paren is read from the side table, at index `place`.
 #[inline(always)]
 pub(crate) fn read<'a>(
     text: &'a str,

@@ -1,4 +1,4 @@
--- What isn't read where a group ends, or doesn't.
+-- At the end of a group no `(` is read; elsewhere no `)` is read.
 use Rattle.std.proofs.Common.{◌≡◌, true, false, List, [], ◌∷◌, None, refl}
 use Rattle.wat_tokens.specs.Token.{Tok, LParen, RParen}
 use Rattle.wat_tokens.specs.Tests.{as_lparen, as_rparen, ends}

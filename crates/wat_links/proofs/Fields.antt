@@ -1,4 +1,4 @@
--- Where there is an entry, there is a field.
+-- If the section has an entry, it has a field.
 use Rattle.std.proofs.Common.{◌≡◌, false, List, [], ◌∷◌, ◌++◌, Some, None, refl}
 use Rattle.wat_tokens.specs.Laws.Filled.{filled_before, filled_behind}
 use Rattle.wat_tokens.specs.Production.{Read, bind}

@@ -1,4 +1,4 @@
--- The flags that are still read, joined with those before.
+-- The flags that are still to be read, joined with the flags before them.
 use Rattle.std.proofs.Common.{◌≡◌, ◌<◌, ℕ, Bool, true, false, List, ◌∷◌, length, Some, None, refl, ap, ◌∙◌}
 use Rattle.std.specs.Prelude.{fold}
 use Rattle.std.specs.Int.Bits.{bit_or}
@@ -17,7 +17,7 @@ more_left t b e f = rw (← e, f) refl
 pub none_more : (t : List Tok) (b : Bool) → b ≡ ends t → b ≡ true → more t ≡ false
 none_more t b e f = rw (← e, f) refl
 
--- all of them, joined with n
+-- all flags, joined with n
 abbrev pub joined_with : ℕ → Read (List ℕ) → Read ℕ
 joined_with n read = bind read (λ ns r. Some (fold bit_or n ns, r))
 

@@ -1,4 +1,4 @@
--- Where an exact type use isn't bare, a function of it isn't either.
+-- If an exact type use isn't bare, the function kind with this type use isn't bare either.
 use Rattle.std.proofs.Common.{Bool, true, false, Some, None}
 use Rattle.wat_tokens.specs.Parses.{NotBare}
 use Rattle.wat_tokens.specs.Production.{Read, bind}

@@ -1,4 +1,4 @@
--- Texts as tokens, and the imports and exports that they spell: what is read of them.
+-- Sample texts as tokens, and the imports and exports that are read from them.
 use Rattle.std.proofs.Common.{refl}
 use Rattle.std.specs.Char.{encode_utf8}
 use Rattle.std.specs.Str.{chars, is_utf8}

@@ -1,4 +1,4 @@
--- What `get_mut` says of an item, read as `slice_get`.
+-- The contract of `get_mut`, in terms of `slice_get`.
 use Rattle.std.proofs.Common.{◌≡◌, ℕ, List, refl, ap, length, MutBor, Some, None}
 use Rattle.std.specs.List.{slice_get, IsItemAtMut}
 use Rattle.std.specs.Option.{option_map}

@@ -1,4 +1,4 @@
--- A run of entries has one at least.
+-- A run of entries has at least one entry.
 use Rattle.std.proofs.Common.{◌≤◌, Bool, List, refl}
 use Rattle.wat_tokens.specs.Token.{Tok}
 use Rattle.wat_tokens.specs.Production.{Production}

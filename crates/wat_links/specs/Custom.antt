@@ -15,7 +15,7 @@ use Rattle.wat_links.specs.declared.custom_place.CustomPlace.TheVariants.{Before
 use Rattle.wat_links.specs.declared.custom.Custom.{Custom}
 use Rattle.wat_links.specs.declared.custom.Custom.TheVariants as code
 
--- the bytes of one of any name, the fields of a `producers` section, or the subsections of a
+-- the bytes of a section of any name, the fields of a `producers` section, or the subsections of a
 -- `dylink.0` section
 pub data CustomTy : Type 0 where
   raw : RawTy → CustomTy
@@ -27,25 +27,25 @@ custom_view (code.Raw r) = raw (raw_view r)
 custom_view (code.Producers p) = produced (producers_view p)
 custom_view (code.Dylink0 d) = linked (dylink_view d)
 
--- no bytes, no field, no subsection
+-- has no bytes, no field and no subsection
 abbrev pub bare_custom : CustomTy → Bool
 bare_custom (raw r) = bare_raw r
 bare_custom (produced fs) = no_items fs
 bare_custom (linked ss) = no_items ss
 
--- where it is
+-- the place of the section
 abbrev pub place_of : Custom → CustomPlace
 place_of (code.Raw r) = r.place
 place_of (code.Producers p) = AfterLast
 place_of (code.Dylink0 d) = BeforeFirst
 
--- its name
+-- the name of the section
 abbrev pub custom_name : Custom → List ℕ
 custom_name (code.Raw r) = r.name.now
 custom_name (code.Producers p) = codes "producers"
 custom_name (code.Dylink0 d) = codes "dylink.0"
 
--- the annotation of the name
+-- the next token is the annotation with the given name
 abbrev pub begins_annotated : List ℕ → List Tok → Bool
 begins_annotated name (Annotation n ∷ r) = bytes_eq n name
 begins_annotated name _ = false

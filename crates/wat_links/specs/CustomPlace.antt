@@ -1,4 +1,4 @@
--- Where a custom section is.
+-- Places of custom sections.
 use Rattle.std.specs.Prelude.{ℕ, List, [], ◌∷◌, codes, refl}
 use Rattle.wat_tokens.specs.Tests.{word_in, begins_word}
 use Rattle.wat_tokens.specs.Production.{Production}
@@ -9,7 +9,7 @@ use Rattle.wat_links.specs.declared.custom_place.CustomPlace.TheVariants.{AfterL
 use Rattle.wat_links.specs.declared.custom_place.CustomPlaceAnchor.{CustomPlaceAnchor}
 use Rattle.wat_links.specs.declared.custom_place.CustomPlaceAnchor.TheVariants as anchor
 
--- the words of the known sections
+-- the keywords of the known sections
 abbrev pub anchor_words : List (List ℕ × CustomPlaceAnchor)
 anchor_words =
     (codes "type", anchor.«Type») ∷ (codes "import", anchor.Import) ∷ (codes "func", anchor.Func)
@@ -18,7 +18,7 @@ anchor_words =
     ∷ (codes "start", anchor.Start) ∷ (codes "elem", anchor.Elem) ∷ (codes "code", anchor.Code)
     ∷ (codes "data", anchor.Data) ∷ (codes "tag", anchor.Tag) ∷ []
 
--- one of the words of the known sections
+-- one of the keywords of the known sections
 unfoldable pub section : Production CustomPlaceAnchor
 section = one (word_in anchor_words) (refl, refl)
 

@@ -1,4 +1,4 @@
--- Texts as tokens, and the custom sections that they spell.
+-- Sample texts as tokens, and the custom sections that they spell.
 use Rattle.std.specs.Prelude.{List, [], ◌∷◌, ◌++◌, codes}
 use Rattle.wat_tokens.specs.Token.{Tok, Keyword, Integer, String, Annotation}
 use Rattle.wat_tokens.specs.Spelled.{in_parens, Spelled}
@@ -20,8 +20,8 @@ entry_text w ts = in_parens (w ++ ts)
 abbrev export_word : List Tok
 export_word = Keyword (codes "export-info") ∷ []
 
--- `@dylink.0 (export-info "a" tls) (export-info "b" 3) (needed "x") (export-info "c")`: exports
--- that are behind one another share a subsection
+-- `@dylink.0 (export-info "a" tls) (export-info "b" 3) (needed "x") (export-info "c")`: adjacent
+-- exports share a subsection
 abbrev pub Exports : Type 0
 Exports =
     Spelled custom
@@ -33,7 +33,7 @@ Exports =
     (linked (export_info ((codes "a", 256) ∷ (codes "b", 3) ∷ []) ∷ needed (codes "x" ∷ [])
     ∷ export_info ((codes "c", 0) ∷ []) ∷ []))
 
--- `@dylink.0 (mem-info (table 1 2))`: what is left out is 0
+-- `@dylink.0 (mem-info (table 1 2))`: missing numbers are 0
 abbrev pub Sizes : Type 0
 Sizes =
     Spelled custom (Annotation (codes "dylink.0")

@@ -1,4 +1,4 @@
--- A `dylink.0` section is read as subsections that its entries are cut into.
+-- The grammar of a `dylink.0` section: its entries, cut into subsections.
 use Rattle.std.specs.Prelude.{List, codes}
 use Rattle.wat_tokens.specs.Production.{Production}
 use Rattle.wat_tokens.specs.Restated.{restated}
@@ -8,7 +8,7 @@ use Rattle.wat_links.specs.Subsections.{subsections}
 use Rattle.wat_links.specs.CutForm.{CutSpells}
 use Rattle.wat_links.specs.Laws.Cutting.{cut_to, cut_from}
 
--- entries to the end, cut into subsections
+-- entries to the end of the group, cut into subsections
 unfoldable pub cut_subsections : Production (List SubsectionTy)
 cut_subsections = restated subsections CutSpells cut_to cut_from
 

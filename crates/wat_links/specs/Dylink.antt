@@ -17,7 +17,7 @@ use Rattle.wat_links.specs.declared.dylink.Dylink0Subsection.TheVariants as code
 use Rattle.wat_links.specs.DylinkEntries.{export_entry, import_entry}
 use Rattle.wat_links.specs.Laws.DylinkEntries.{export_entry_consumes, import_entry_consumes}
 
--- ---- what contracts see
+-- ---- views
 
 pub data SubsectionTy : Type 0 where
   mem_info : ℕ → ℕ → ℕ → ℕ → SubsectionTy
@@ -44,7 +44,7 @@ subsection_view (code.TargetArch x) = target_arch x.now
 abbrev pub dylink_view : Dylink0 → List SubsectionTy
 dylink_view d = map subsection_view d.subsections.items
 
--- no name and no entry
+-- has no name and no entry
 abbrev pub bare_subsection : SubsectionTy → Bool
 bare_subsection (mem_info ms ma ts ta) = true
 bare_subsection (needed xs) = no_items xs
@@ -53,7 +53,7 @@ bare_subsection (import_info es) = no_items es
 bare_subsection (runtime_path xs) = no_items xs
 bare_subsection (target_arch x) = true
 
--- the number that a binary module gives to its kind
+-- the number of the subsection's kind in a binary module
 abbrev pub id_of : Dylink0Subsection → ℕ
 id_of (code.MemInfo ms ma ts ta) = 1
 id_of (code.Needed xs) = 2
@@ -62,12 +62,12 @@ id_of (code.ImportInfo es) = 4
 id_of (code.RuntimePath xs) = 5
 id_of (code.TargetArch x) = 6
 
--- ---- entries that are alone
+-- ---- entries that are separate subsections
 
 abbrev pub no_size : ℕ × ℕ
 no_size = (0, 0)
 
--- ( word size alignment ), where the second token is the word; else 0 and 0
+-- ( word size alignment ) if the second token is the word; else 0 and 0
 unfoldable pub sizes : List ℕ → Production (ℕ × ℕ)
 sizes w = made (λ o. unwrap_or o no_size)
     (opt (second (begins_word w)) (group w (seq (unsigned 32) (unsigned 32))))
@@ -99,14 +99,14 @@ begins_export t = begins_group (codes "export-info") t
 abbrev pub begins_import : List Tok → Bool
 begins_import t = begins_group (codes "import-info") t
 
--- an entry, and all others of its kind that are behind it
+-- an entry, and all entries of the same kind directly after it
 abbrev pub run : {A : Type 0} → (List Tok → Bool) → (g : Production A) → 1 ≤ g.least
     → Production (List A)
 run begins g consumes = made (λ v. v.0 ∷ v.1) (seq g (many begins g consumes))
 
 -- ---- subsections
 
--- a run of export entries, a run of import entries, or another entry alone
+-- a run of export entries, a run of import entries, or one other entry
 unfoldable pub subsection : Production SubsectionTy
 subsection =
     where_else begins_export (made export_info

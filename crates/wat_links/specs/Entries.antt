@@ -1,4 +1,4 @@
--- The subsections of a `dylink.0` section, as its entries are cut into them.
+-- How the entries of a `dylink.0` section are cut into subsections.
 use Rattle.std.specs.Prelude.{ℕ, List, [], ◌∷◌, map, ⊤}
 use Rattle.wat_tokens.specs.Production.{Production}
 use Rattle.wat_tokens.specs.Parts.{made, where_else}
@@ -6,7 +6,7 @@ use Rattle.wat_links.specs.Dylink.{SubsectionTy, export_info, import_info, begin
 use Rattle.wat_links.specs.Dylink.{begins_import, lone_entry}
 use Rattle.wat_links.specs.DylinkEntries.{export_entry, import_entry}
 
--- an entry: of an export, of an import, or another
+-- an export entry, an import entry, or another entry
 pub data EntryTy : Type 0 where
   of_export : List ℕ × ℕ → EntryTy
   of_import : List ℕ × List ℕ × ℕ → EntryTy
@@ -23,19 +23,20 @@ entries_in (export_info xs) = map of_export xs
 entries_in (import_info xs) = map of_import xs
 entries_in s = other s ∷ []
 
--- a subsection of exports or of imports has an entry at least
+-- a subsection of exports or of imports has at least one entry
 abbrev pub IsFilled : SubsectionTy → Type 0
 IsFilled (export_info []) = ⊥
 IsFilled (import_info []) = ⊥
 IsFilled _ = ⊤
 
--- it isn't of exports as the first of the others, nor of imports as that
+-- the subsection and the first of the next subsections are not both of exports or both of imports
 abbrev pub IsApart : SubsectionTy → List SubsectionTy → Type 0
 IsApart (export_info xs) (export_info ys ∷ ss) = ⊥
 IsApart (import_info xs) (import_info ys ∷ ss) = ⊥
 IsApart _ _ = ⊤
 
--- none is empty, and no two neighbours are both of exports or both of imports
+-- no subsection of exports or of imports is empty, and no two adjacent subsections are both of
+-- exports or both of imports
 abbrev pub AreCut : List SubsectionTy → Type 0
 AreCut [] = ⊤
 AreCut (s ∷ ss) = IsFilled s × IsApart s ss × AreCut ss

@@ -30,13 +30,13 @@ kind_words =
 unfoldable pub export_kind : Production ExportKind
 export_kind = one (word_in kind_words) (refl, refl)
 
--- one of the words
+-- one of the keywords
 unfoldable pub begins_kind : List Tok → Bool
 begins_kind t = begins_one_of (word_in kind_words) t
 
 -- ---- exports
 
--- an export, without its places
+-- an export, without positions
 pub record ExportTy : Type 0 where
   pub name : List ℕ
   pub kind : ExportKind
@@ -55,7 +55,7 @@ export_ = after_word (codes "export")
 
 -- ---- types of exports
 
--- a name, and the signature of what is exported
+-- a name, and the signature of the exported item
 abbrev pub ExportTypeTy : Type 0
 ExportTypeTy = List ℕ × SigTy
 
@@ -69,7 +69,7 @@ bare_export_type e = bare_sig e.1
 unfoldable pub export_type : Production ExportTypeTy
 export_type = after_word (codes "export") (seq text (paren item_sig))
 
--- ---- exports in line
+-- ---- inline exports
 
 abbrev pub inline_export_view : InlineExport → List (List ℕ)
 inline_export_view e = map (λ n. n.now) e.names.items

@@ -9,7 +9,7 @@ use Rattle.wat_links.specs.declared.flags.SymbolFlag.{SymbolFlag}
 abbrev pub flag_with : ℕ → SymbolFlag
 flag_with bit = record { 0 = bit }
 
--- the words of flags, each with its bit
+-- each keyword of a flag, with its bit
 abbrev pub flag_words : List (List ℕ × SymbolFlag)
 flag_words =
     (codes "binding-weak", flag_with 1) ∷ (codes "binding-local", flag_with 2)
@@ -18,7 +18,7 @@ flag_words =
     ∷ (codes "no-strip", flag_with 128) ∷ (codes "tls", flag_with 256)
     ∷ (codes "absolute", flag_with 512) ∷ []
 
--- u32 | a word of flags, as its bit
+-- u32 | keyword of a flag, as its bit
 unfoldable pub flag_bits : Production ℕ
 flag_bits =
     where_else begins_integer (unsigned 32) (made (λ f. f.0) (one (word_in flag_words) (refl, refl)))

@@ -8,10 +8,10 @@ use Rattle.wat_tokens.specs.Many.{many}
 use Rattle.wat_links.specs.FlagBits.{flag_bits}
 use Rattle.wat_links.specs.Laws.Flags.{flag_bits_consumes}
 
--- ( u32 | a word of flags )*, to the end
+-- ( u32 | keyword of a flag )*, to the end of the group
 unfoldable pub flag_list : Production (List ℕ)
 flag_list = many more flag_bits flag_bits_consumes
 
--- the bits of all, joined by or
+-- the bits of all flags, joined by bitwise or
 unfoldable pub symbol_flags : Production ℕ
 symbol_flags = made (λ ns. fold bit_or 0 ns) flag_list

@@ -12,6 +12,6 @@ use Rattle.wat_links.specs.Laws.Forms.{items_to, items_from}
 unfoldable pub import_items : Production ItemsTy
 import_items = restated import_choice ItemsSpells items_to items_from
 
--- `import` name, and items
+-- `import`, a name, and items
 unfoldable pub imports : Production ImportsTy
 imports = after_word (codes "import") (made (λ v. imports_of v.0 v.1) (seq text import_items))

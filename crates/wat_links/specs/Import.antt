@@ -22,7 +22,7 @@ use Rattle.wat_links.specs.declared.import.InlineImport.{InlineImport}
 use Rattle.wat_links.specs.ImportItem.{sig_group, typed_item, named_item}
 use Rattle.wat_links.specs.Laws.Import.{typed_item_consumes, named_item_consumes}
 
--- ---- what contracts see
+-- ---- views
 
 -- a name and its signature; names, each with its signature; names that share a signature
 pub data ItemsTy : Type 0 where
@@ -30,7 +30,7 @@ pub data ItemsTy : Type 0 where
   group1 : List (List ℕ × SigTy) → ItemsTy
   group2 : SigTy → List (List ℕ) → ItemsTy
 
--- what is imported, from the module of the name
+-- the imported items, and the name of the module
 pub record ImportsTy : Type 0 where
   pub from : List ℕ
   pub items : ItemsTy
@@ -38,7 +38,7 @@ pub record ImportsTy : Type 0 where
 abbrev pub imports_of : List ℕ → ItemsTy → ImportsTy
 imports_of m i = record { from = m; items = i }
 
--- a name, and what holds it
+-- a name, and the value that contains it
 abbrev pub HeldName : Type 0
 HeldName = Bor (List ℕ)
 
@@ -61,7 +61,7 @@ items_view (Group2 m s xs) = group2 (sig_view s) (map named_view xs.items)
 abbrev pub imports_view : ImportsOf HeldName ItemSig → ImportsTy
 imports_view i = imports_of (module_of i.items).now (items_view i.items)
 
--- no item in a group, and no parameter and no result in line
+-- has no item in a group, and no inline parameter or result
 abbrev pub bare_items : ItemsTy → Bool
 bare_items (single n s) = bare_sig s
 bare_items (group1 xs) = no_items xs
@@ -72,11 +72,11 @@ bare_imports i = bare_items i.items
 
 -- ---- the grammar
 
--- an item has to follow: the second token is `item`, whatever the first is
+-- an item has to follow: the second token is `item`, for any first token
 abbrev pub item_follows : List Tok → Bool
 item_follows t = second (begins_word (codes "item")) t
 
--- the signature that a group shares: without an identifier
+-- the signature shared by a group, without an identifier
 unfoldable pub shared_sig : Production SigTy
 shared_sig = paren (made_where (λ s. is_none s.label.id) (λ s. s) item_sig)
 
@@ -95,39 +95,39 @@ named_list = many item_follows named_item named_item_consumes
 unfoldable pub typed_items : Production ItemsTy
 typed_items = made group1 typed_list
 
--- items without signatures, and the one that they share
+-- items without signatures, and their shared signature
 unfoldable pub named_items : Production ItemsTy
 named_items = made (λ v. group2 v.1 v.0) (seq named_list shared_sig)
 
--- `(`, `item` and a string, and then not what closes the group
+-- `(`, `item`, a string, and then a token other than `)`
 abbrev pub opens_typed : List Tok → Bool
 opens_typed (LParen ∷ Keyword k ∷ String s ∷ r) = bytes_eq k (codes "item") && more r
 opens_typed _ = false
 
--- nothing is left, or an item with more than a name is in front
+-- the group or the text ends, or the next item has more than a name
 abbrev pub typed : List Tok → Bool
 typed t = ends t || opens_typed t
 
--- where nothing is left or an item with more than a name comes next: items with signatures; where
--- another `(` comes next: items without, and the signature that they share; else a single item
+-- items with signatures if the group or the text ends or the next item has more than a name; items
+-- without signatures and their shared signature if another `(` is next; else a single item
 unfoldable pub import_choice : Production ItemsTy
 import_choice = where_else typed typed_items (where_else begins_lparen named_items single_item)
 
--- ---- signatures, by number
+-- ---- signatures by number
 
--- one for each item; a group that shares one repeats it
+-- one signature for each item; a shared signature is repeated
 abbrev pub item_sigs : {N S : Type 0} → ImportItemsOf N S → List S
 item_sigs (Single m n s) = s ∷ []
 item_sigs (Group1 m xs) = map (λ x. x.sig) xs.items
 item_sigs (Group2 m s xs) = replicate (length xs.items) s
 
--- how many items there are
+-- the number of items
 abbrev pub item_count : {N S : Type 0} → ImportItemsOf N S → ℕ
 item_count (Single m n s) = 1
 item_count (Group1 m xs) = length xs.items
 item_count (Group2 m s xs) = length xs.items
 
--- the signatures that are written, each once
+-- the signatures in the text, each once
 abbrev pub own_sigs : {N S : Type 0} → ImportItemsOf N S → List S
 own_sigs (Single m n s) = s ∷ []
 own_sigs (Group1 m xs) = map (λ x. x.sig) xs.items
@@ -135,7 +135,7 @@ own_sigs (Group2 m s xs) = s ∷ []
 
 -- ---- imports and their clone
 
--- the same in each part, places too
+-- the same in each part, also the positions
 abbrev pub SameTyped
     : ImportGroup1ItemOf HeldName ItemSig → ImportGroup1ItemOf HeldName ItemSig → Type 0
 SameTyped x y = (x.span ≡ y.span) × (x.name ≡ y.name) × SameSig x.sig y.sig
@@ -154,7 +154,7 @@ SameItems (Group1 m xs) (Group1 m' xs') = (m ≡ m') × SameAll xs.items xs'.ite
 SameItems (Group2 m s xs) (Group2 m' s' xs') = (m ≡ m') × SameSig s s' × (xs.items ≡ xs'.items)
 SameItems _ _ = ⊥
 
--- ---- imports in line
+-- ---- inline imports
 
 abbrev pub inline_import_view : InlineImport → List ℕ × List ℕ
 inline_import_view i = (i.module.now, i.field.now)

@@ -1,4 +1,4 @@
--- The name of an export within a field.
+-- The name of an inline export.
 use Rattle.std.specs.Prelude.{ℕ, List, codes}
 use Rattle.wat_tokens.specs.Production.{Production}
 use Rattle.wat_tokens.specs.Groups.{group}

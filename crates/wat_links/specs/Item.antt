@@ -1,4 +1,4 @@
--- Signatures of items that are imported or exported.
+-- Signatures of imported or exported items.
 use Rattle.std.specs.Prelude.{◌≡◌, ℕ, Bool, true, false, List, codes}
 use Rattle.wat_tokens.specs.Tests.{begins_word, second}
 use Rattle.wat_tokens.specs.Production.{Production}
@@ -18,7 +18,7 @@ use Rattle.wat_links.specs.declared.item.ItemKind.{ItemKind}
 use Rattle.wat_links.specs.declared.item.ItemKind.TheVariants as code
 use Rattle.wat_links.specs.declared.item.ItemSig.{ItemSig}
 
--- ---- what contracts see
+-- ---- views
 
 pub data ItemKindTy : Type 0 where
   func : UseTy FuncTy → ItemKindTy
@@ -28,7 +28,7 @@ pub data ItemKindTy : Type 0 where
   tag : UseTy FuncTy → ItemKindTy
   exact_func : UseTy FuncTy → ItemKindTy
 
--- a signature, and what names the item
+-- a signature, with the label of the item
 pub record SigTy : Type 0 where
   pub label : Label
   pub kind : ItemKindTy
@@ -51,7 +51,7 @@ sig_view s = sig_of (label_view s.id s.name) (item_kind_view s.kind)
 abbrev pub exact_use_view : TypeUse FunctionType × Bool → UseTy FuncTy × Bool
 exact_use_view u = (use_view function_view u.0, u.1)
 
--- no parameter and no result in line
+-- has no inline parameter or result
 abbrev pub bare_exact_use : UseTy FuncTy × Bool → Bool
 bare_exact_use u = bare_use bare_function u.0
 
@@ -72,7 +72,7 @@ bare_sig s = bare_item_kind s.kind
 abbrev pub func_use : Production (UseTy FuncTy)
 func_use = type_use begins_func function_type
 
--- where the second token is `exact`, ( exact TypeUse ); else TypeUse
+-- ( exact TypeUse ) if the second token is `exact`; else TypeUse
 unfoldable pub exact_use : Production (UseTy FuncTy × Bool)
 exact_use =
     where_else (second (begins_word (codes "exact")))
@@ -107,7 +107,7 @@ item_sig =
 
 -- ---- one signature and its clone
 
--- the same variant, with the same type in it
+-- the same variant, with the same type
 abbrev pub SameKind : ItemKind → ItemKind → Type 0
 SameKind (code.Func u) (code.Func v) = SameUse SameFunction u v
 SameKind (code.Table t) (code.Table s) = t ≡ s
@@ -117,6 +117,6 @@ SameKind (code.Tag t) (code.Tag s) = SameTag t s
 SameKind (code.FuncExact u) (code.FuncExact v) = SameUse SameFunction u v
 SameKind _ _ = ⊥
 
--- the same in each part, places too
+-- the same in each part, also the positions
 abbrev pub SameSig : ItemSig → ItemSig → Type 0
 SameSig s t = (s.span ≡ t.span) × (s.id ≡ t.id) × (s.name ≡ t.name) × SameKind s.kind t.kind

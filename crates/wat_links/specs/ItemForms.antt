@@ -1,4 +1,4 @@
--- What the items of an import spell: three forms.
+-- Which tokens spell the items of an import: three forms.
 use Rattle.std.specs.Prelude.{◌≡◌, true, false, List, [], ◌∷◌}
 use Rattle.wat_tokens.specs.Token.{Tok}
 use Rattle.wat_tokens.specs.Tests.{ends}
@@ -8,10 +8,11 @@ use Rattle.wat_links.specs.Import.{ItemsTy, single, group1, group2, item_follows
 use Rattle.wat_links.specs.Import.{named_list, shared_sig}
 use Rattle.wat_links.specs.ImportItem.{sig_group}
 
--- a single item is a name and ( ItemSig ). Items with signatures are none, where nothing is left,
--- or some, each ( item name ( ItemSig ) ). Items that share a signature are any number, each ( item
--- name ), and then ( ItemSig ) without an identifier. Items end where the second token isn't
--- `item`, whatever the first is.
+-- single: a name and ( ItemSig ).
+-- group1: items with signatures, each ( item name ( ItemSig ) ); no items only if the group or the
+-- text ends next.
+-- group2: any number of items, each ( item name ), and then ( ItemSig ) without an identifier.
+-- One more item follows as long as the second token is `item`, for any first token.
 abbrev pub ItemsSpells : ItemsTy → List Tok → List Tok → Type 0
 ItemsSpells (single n s) c r = (seq text sig_group).spells (n, s) c r
 ItemsSpells (group1 []) c r = (c ≡ []) × (item_follows r ≡ false) × (ends r ≡ true)

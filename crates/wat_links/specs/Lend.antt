@@ -1,4 +1,4 @@
--- Signatures that imports lend.
+-- References to signatures, lent by imports.
 use Rattle.std.specs.contracts.vec.Vec.{the_row as vec-row}
 use Rattle.std.specs.contracts.alloc.Global.{the_row as global}
 use Rattle.std.specs.contracts.impls.GlobalAllocator.TheImpl.{ghosts}
@@ -22,26 +22,26 @@ only_first (suc i) s = None
 abbrev pub typed_sig_at : {N S : Type 0} → ℕ → List (ImportGroup1ItemOf N S) → Option S
 typed_sig_at i xs = option_map (λ x. x.sig) (slice_get xs i)
 
--- the signature number i
+-- signature number i
 abbrev pub sig_at : {N S : Type 0} → ℕ → ImportItemsOf N S → Option S
 sig_at i (Single m n s) = only_first i s
 sig_at i (Group1 m xs) = typed_sig_at i xs.items
 sig_at i (Group2 m s xs) = only_first i s
 
--- the items with w as the signature of x, which is at i
+-- the items, with w as the signature of item i
 abbrev pub with_item_sig : {N S Z : Type 0} → Vec (ImportGroup1ItemOf N S) Z → ℕ → S
     → Option (ImportGroup1ItemOf N S) → Vec (ImportGroup1ItemOf N S) Z
 with_item_sig v i w None = v
 with_item_sig v i w (Some x) = with_item v i (record x { sig = w })
 
--- the items with w as the signature number i, where there is one
+-- the items with w as signature number i, if such a signature exists
 abbrev pub with_sig : {N S : Type 0} → ℕ → ImportItemsOf N S → S → ImportItemsOf N S
 with_sig i (Single m n s) w = Single m n w
 with_sig i (Group1 m xs) w = Group1 m (with_item_sig xs i w (slice_get xs.items i))
 with_sig i (Group2 m s xs) w = Group2 m w xs
 
--- r, if there is one, is lent of s: what is written to it becomes the signature of the item number
--- i, and nothing else changes
+-- If r is Some, it is lent from s: a write through r changes the signature of item number i, and
+-- nothing else.
 abbrev pub LendsTyped : (N S : RattleType) → ℕ
     → MutBor (Vec (ImportGroup1ItemOf N.Denot S.Denot) global.Denot) → Option (MutBor S.Denot) → Fml
 LendsTyped N S i s r =

@@ -1,4 +1,4 @@
--- Texts as tokens, and the imports and exports that they spell.
+-- Sample texts as tokens, and the imports and exports that they spell.
 use Rattle.std.specs.Prelude.{List, [], ◌∷◌, ◌++◌, codes, None}
 use Rattle.wat_tokens.specs.Token.{Tok, Keyword, Integer, String}
 use Rattle.wat_tokens.specs.Production.{Front}
@@ -18,7 +18,7 @@ abbrev any_func : SigTy
 any_func = sig_of no_label (func (use_of None None))
 
 -- `import "m"` has no items; `import "m" (func)` has a signature and no items; `import "m" (item
--- "a") (item "b") (func)` has two items that share one
+-- "a") (item "b") (func)` has two items that share a signature
 abbrev pub Imports : Type 0
 Imports =
     Spelled imports (Keyword (codes "import") ∷ String (codes "m") ∷ [])

@@ -1,4 +1,4 @@
--- One entry of the producers section.
+-- One entry of the `producers` section.
 use Rattle.std.specs.Prelude.{ℕ, List, [], ◌∷◌, codes, refl}
 use Rattle.wat_tokens.specs.Tests.{word_in}
 use Rattle.wat_tokens.specs.Production.{Production}
@@ -8,7 +8,7 @@ use Rattle.wat_tokens.specs.Strings.{text}
 use Rattle.wat_links.specs.declared.producers.Field.{Field}
 use Rattle.wat_links.specs.declared.producers.Field.TheVariants.{Language, Sdk, ProcessedBy}
 
--- the fields, by their words
+-- the fields, by their keywords
 abbrev pub field_words : List (List ℕ × Field)
 field_words =
     (codes "language", Language) ∷ (codes "sdk", Sdk) ∷ (codes "processed-by", ProcessedBy) ∷ []
@@ -17,11 +17,11 @@ field_words =
 abbrev pub Versioned : Type 0
 Versioned = List ℕ × List ℕ
 
--- the field that it is of, its name and its version
+-- the field of an entry, its name and its version
 abbrev pub ProducerTy : Type 0
 ProducerTy = Field × Versioned
 
--- the word of a field
+-- the keyword of a field
 unfoldable pub field_word : Production Field
 field_word = one (word_in field_words) (refl, refl)
 

@@ -28,7 +28,7 @@ same_field _ _ = false
 abbrev pub entry_view : ProducerEntry → ProducerTy
 entry_view e = (e.field, (e.name.now, e.version.now))
 
--- entries, to the end
+-- entries, to the end of the group
 unfoldable pub producer_entries : Production (List ProducerTy)
 producer_entries = many more producer_entry producer_entry_consumes
 
@@ -38,7 +38,7 @@ producer_entries = many more producer_entry producer_entry_consumes
 abbrev pub field_entries : Field → List ProducerTy → List Versioned
 field_entries f es = map (λ e. e.1) (filter (λ e. same_field e.0 f) es)
 
--- a field with its entries, where it has any
+-- a field with its entries, if the field has entries
 abbrev pub with_entries : List ℕ → List Versioned → List (List ℕ × List Versioned)
 with_entries w [] = []
 with_entries w (x ∷ xs) = (w, x ∷ xs) ∷ []
@@ -46,13 +46,13 @@ with_entries w (x ∷ xs) = (w, x ∷ xs) ∷ []
 abbrev pub field_with_entries : Field → List ProducerTy → List (List ℕ × List Versioned)
 field_with_entries f es = with_entries (word_of f) (field_entries f es)
 
--- the three fields in this order, each with its entries; those without any are left out
+-- the three fields in this order, each with its entries; fields without entries are left out
 abbrev pub fields_of : List ProducerTy → List (List ℕ × List Versioned)
 fields_of es =
     (field_with_entries Language es ++ field_with_entries Sdk es)
     ++ field_with_entries ProcessedBy es
 
--- what contracts see of names with versions
+-- the view of names with versions
 abbrev pub names_view : List (Bor (List ℕ) × Bor (List ℕ)) → List Versioned
 names_view xs = map (λ x. (x.0.now, x.1.now)) xs
 

@@ -25,15 +25,15 @@ raw_of n p d = record { name = n; place = p; «data» = d }
 abbrev pub raw_view : RawCustomSection → RawTy
 raw_view r = raw_of r.name.now r.place (map (λ s. s.now) r.data.items)
 
--- no string of bytes
+-- has no string of bytes
 abbrev pub bare_raw : RawTy → Bool
 bare_raw r = no_items r.data
 
--- ( place )?, without it behind the last section
+-- ( place )?; without a place, after the last section
 unfoldable pub raw_place : Production CustomPlace
 raw_place = made (λ p. unwrap_or p AfterLast) (opt begins_lparen (paren custom_place))
 
--- bytes*, to the end
+-- bytes*, to the end of the group
 unfoldable pub raw_data : Production (List (List ℕ))
 raw_data = many more string (lit≤ tt)
 

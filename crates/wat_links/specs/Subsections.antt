@@ -1,4 +1,4 @@
--- Subsections of the dylink section.
+-- Subsections of the `dylink.0` section.
 use Rattle.std.specs.Prelude.{List}
 use Rattle.wat_tokens.specs.Tests.{more}
 use Rattle.wat_tokens.specs.Production.{Production}
@@ -6,6 +6,6 @@ use Rattle.wat_tokens.specs.Many.{many}
 use Rattle.wat_links.specs.Dylink.{SubsectionTy, subsection}
 use Rattle.wat_links.specs.Laws.Subsections.{subsection_consumes}
 
--- subsections, to the end
+-- subsections, to the end of the group
 unfoldable pub subsections : Production (List SubsectionTy)
 subsections = many more subsection subsection_consumes

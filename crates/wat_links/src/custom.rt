@@ -24,7 +24,7 @@ pub enum Custom<'a> {
 
 impl<'a> Custom<'a> {
     /// Returns the place of the section. A `producers` section is after the last section, and a
-    /// `dylink.0` section before the first.
+    /// `dylink.0` section is before the first section.
     pub fn place(&self) -> CustomPlace
         ensures { result ≡ place_of self.now }
     {
@@ -47,7 +47,7 @@ impl<'a> Custom<'a> {
     }
 }
 
-/// Whether the next token is the annotation of the name, given without its `@`.
+/// Returns whether the next token is the annotation `name`, given without its `@`.
 fn annotation_next(parser: &Parser<'_>, name: &str) -> bool
     ensures { result ≡ begins_annotated name.now parser.now.left }
 {
@@ -57,8 +57,8 @@ fn annotation_next(parser: &Parser<'_>, name: &str) -> bool
     }
 }
 
-/// Reads the rest of an annotation after its `(`. If the next token is `@producers`, it reads a
-/// [`Producers`], if it is `@dylink.0`, a [`Dylink0`], and otherwise a [`RawCustomSection`], which
+/// Reads the rest of an annotation after its `(`: a [`Producers`] if the next token is
+/// `@producers`, a [`Dylink0`] if it is `@dylink.0`, and otherwise a [`RawCustomSection`], which
 /// begins with `@custom`. The annotation has to be known to the parser.
 impl<'a> Parse<'a> for Custom<'a> {
     ghost View = { CustomTy };

@@ -51,7 +51,7 @@ pub enum CustomPlaceAnchor {
     Tag,
 }
 
-/// The section that a keyword names.
+/// The sections by keyword.
 impl NamedByKeyword for CustomPlaceAnchor {
     ghost words = { anchor_words };
 
@@ -74,7 +74,7 @@ impl NamedByKeyword for CustomPlaceAnchor {
     }
 }
 
-/// Reads the keyword of a section. Any other token is the error Unexpected, at the token.
+/// Reads the keyword of a section. Returns Unexpected at any other token.
 impl<'a> Parse<'a> for CustomPlaceAnchor {
     ghost use Rattle.wat_links.specs.declared.custom_place.CustomPlaceAnchor.{CustomPlaceAnchor};
     ghost use Rattle.wat_links.specs.CustomPlace.{section};
@@ -91,7 +91,7 @@ impl<'a> Parse<'a> for CustomPlaceAnchor {
     }
 }
 
-/// `before first` or `before` and a section.
+/// Reads `before first`, or `before` and a section.
 #[tactic(auto, unfolding(crate::specs::CustomPlace::before))]
 fn read_before<'a>(parser: &mut Parser<'a>) -> Result<CustomPlace>
     ensures reads { Reads (plain (λ p. p)) before result parser.old parser.new }
@@ -103,7 +103,7 @@ fn read_before<'a>(parser: &mut Parser<'a>) -> Result<CustomPlace>
     CustomPlaceAnchor::parse(parser).map(CustomPlace::Before)
 }
 
-/// `after last` or `after` and a section.
+/// Reads `after last`, or `after` and a section.
 #[tactic(auto, unfolding(crate::specs::CustomPlace::after))]
 fn read_after<'a>(parser: &mut Parser<'a>) -> Result<CustomPlace>
     ensures reads { Reads (plain (λ p. p)) after result parser.old parser.new }
@@ -115,8 +115,8 @@ fn read_after<'a>(parser: &mut Parser<'a>) -> Result<CustomPlace>
     CustomPlaceAnchor::parse(parser).map(CustomPlace::After)
 }
 
-/// Reads `before first`, `before` and a section, `after last`, or `after` and a section. Any other
-/// token is the error Unexpected, at the token.
+/// Reads `before first`, `before` and a section, `after last`, or `after` and a section. Returns
+/// Unexpected at any other token.
 impl<'a> Parse<'a> for CustomPlace {
     ghost use Rattle.wat_links.specs.declared.custom_place.CustomPlace.{CustomPlace};
     ghost use Rattle.wat_links.specs.CustomPlace.{custom_place};

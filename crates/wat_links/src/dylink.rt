@@ -22,8 +22,8 @@ use wat_tokens::{Parse, Parser, Result};
 /// Format, "Custom Annotation", and the tool conventions on dynamic linking).
 #[derive(Debug, Drop)]
 pub struct Dylink0<'a> {
-    /// The subsections, in the order of the text. Adjacent export entries form one subsection, and
-    /// so do adjacent import entries. Every other entry is a subsection by itself.
+    /// The subsections, in the order of the text. Adjacent export entries form one subsection.
+    /// Adjacent import entries form one subsection. Every other entry is a separate subsection.
     pub subsections: Vec<Dylink0Subsection<'a>>,
 }
 
@@ -70,7 +70,7 @@ impl Dylink0Subsection<'_> {
     }
 }
 
-/// `( word size alignment )`, where the second token is the word; else 0 and 0.
+/// Reads `( word size alignment )` if the second token is the word. Otherwise returns 0 and 0.
 #[tactic(auto, unfolding(crate::specs::Dylink::sizes))]
 fn read_sizes<'a>(parser: &mut Parser<'a>, word: &str) -> Result<(u32, u32)>
     ensures reads { Reads (plain (λ s. s)) (sizes word.now) result parser.old parser.new }
@@ -86,7 +86,7 @@ fn read_sizes<'a>(parser: &mut Parser<'a>, word: &str) -> Result<(u32, u32)>
     Ok((size, align))
 }
 
-/// `( mem-info ( memory u32 u32 ) ( table u32 u32 ) )`, the inner groups there or not.
+/// Reads `( mem-info ( memory u32 u32 ) ( table u32 u32 ) )`, where each inner group is optional.
 #[tactic(auto, unfolding(crate::specs::Dylink::mem_info_entry))]
 fn read_mem_info<'a>(parser: &mut Parser<'a>) -> Result<Dylink0Subsection<'a>>
     ensures reads { Reads (plain subsection_view) mem_info_entry result parser.old parser.new }
@@ -104,7 +104,7 @@ fn read_mem_info<'a>(parser: &mut Parser<'a>) -> Result<Dylink0Subsection<'a>>
     })
 }
 
-/// The word and names, in parentheses.
+/// Reads the word and names, in parentheses.
 #[tactic(auto, unfolding(crate::specs::Dylink::names_entry))]
 fn read_names<'a>(parser: &mut Parser<'a>, word: &str) -> Result<Vec<&'a str>>
     ensures reads { Reads (owning (λ v. map (λ x. x.now) v.items) no_items) (names_entry word.now)
@@ -118,7 +118,7 @@ fn read_names<'a>(parser: &mut Parser<'a>, word: &str) -> Result<Vec<&'a str>>
     Ok(names)
 }
 
-/// An entry that is no export or import entry.
+/// Reads an entry that is neither an export entry nor an import entry.
 #[tactic(auto, unfolding(crate::specs::Dylink::lone_entry))]
 fn read_lone<'a>(parser: &mut Parser<'a>) -> Result<Dylink0Subsection<'a>>
     ensures reads { Reads (owning subsection_view bare_subsection) lone_entry result parser.old
@@ -191,7 +191,7 @@ impl<'a> Part<'a, (&'a str, &'a str, u32)> for ImportEntry {
     }
 }
 
-/// An export entry, and all export entries directly after it.
+/// Reads an export entry, and all export entries directly after it.
 #[tactic(auto, using(crate::proofs::Runs::run_steps))]
 fn read_exports<'a>(parser: &mut Parser<'a>) -> Result<Vec<(&'a str, u32)>>
     ensures reads { Reads (owning (λ v. map dylink_export_view v.items) no_items)
@@ -203,7 +203,7 @@ fn read_exports<'a>(parser: &mut Parser<'a>) -> Result<Vec<(&'a str, u32)>>
     Ok(entries)
 }
 
-/// An import entry, and all import entries directly after it.
+/// Reads an import entry, and all import entries directly after it.
 #[tactic(auto, using(crate::proofs::Runs::run_steps))]
 fn read_imports<'a>(parser: &mut Parser<'a>) -> Result<Vec<(&'a str, &'a str, u32)>>
     ensures reads { Reads (owning (λ v. map dylink_import_view v.items) no_items)
@@ -252,8 +252,8 @@ impl<'a> Part<'a, Dylink0Subsection<'a>> for Subsection {
 /// - `( runtime-path name* )`,
 /// - `( target-arch name )`.
 ///
-/// Flags are 32-bit numbers and keywords, joined by bitwise or. An unknown keyword is the error
-/// Unexpected, at the keyword.
+/// Flags are 32-bit numbers and keywords, joined by bitwise or. Returns Unexpected, at the keyword,
+/// if a keyword is unknown.
 impl<'a> Parse<'a> for Dylink0<'a> {
     ghost View = { List SubsectionTy };
 

@@ -66,7 +66,7 @@ pub struct InlineExport<'a> {
     pub names: Vec<&'a str>,
 }
 
-/// The kind that a keyword names.
+/// The kinds by keyword.
 impl NamedByKeyword for ExportKind {
     ghost words = { kind_words };
 
@@ -82,7 +82,7 @@ impl NamedByKeyword for ExportKind {
     }
 }
 
-/// Reads the keyword of a kind. Any other token is the error Unexpected, at the token.
+/// Reads the keyword of a kind. Returns Unexpected at any other token.
 impl<'a> Parse<'a> for ExportKind {
     ghost use Rattle.wat_links.specs.declared.export.ExportKind.{ExportKind};
     ghost use Rattle.wat_links.specs.Export.{export_kind};
@@ -236,7 +236,7 @@ impl<'a> InlineExport<'a> {
     }
 }
 
-/// `( export name )`, as long as `(`, `export`, a string and `)` are next.
+/// `( export name )`, as long as the next tokens are `(`, `export`, a string and `)`.
 struct InlineName;
 
 impl<'a> Part<'a, &'a str> for InlineName {
@@ -274,7 +274,8 @@ impl<'a> Parse<'a> for InlineExport<'a> {
     }
 }
 
-/// An [`InlineExport`] begins at `(`, `export`, a string and `)`. An empty one takes no token.
+/// An [`InlineExport`] begins at `(`, `export`, a string and `)`. An empty [`InlineExport`] takes
+/// no token.
 impl<'p> Peek for InlineExport<'p> {
     ghost begins = { begins_inline_export };
 

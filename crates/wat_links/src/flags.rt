@@ -9,11 +9,11 @@ ghost use Rattle.wat_links.specs.FlagBits.{flag_words, flag_bits};
 use wat_tokens::words::{NamedByKeyword, take_named};
 use wat_tokens::{Parse, Parser, Result};
 
-/// A flag of a symbol, by its bit.
+/// The bit of a symbol's flag.
 #[derive(Clone, Copy)]
 struct SymbolFlag(u32);
 
-/// The flag that a keyword names.
+/// The flags by keyword.
 impl NamedByKeyword for SymbolFlag {
     ghost words = { flag_words };
 
@@ -33,9 +33,9 @@ impl NamedByKeyword for SymbolFlag {
     }
 }
 
-/// Reads a 32-bit number, or the bit of a flag that a keyword names. Any other keyword is the error
-/// Unexpected, at the keyword. A number with a `-`, or one that needs more than 32 bits, is the
-/// error Range.
+/// Reads a 32-bit number, or a keyword that names a flag, and returns the bits. Returns Unexpected,
+/// at the keyword, if the keyword is unknown. Returns Range, at the number, if the number has a `-`
+/// or needs more than 32 bits.
 #[tactic(auto, unfolding(crate::specs::FlagBits::flag_bits))]
 fn read_flag<'a>(parser: &mut Parser<'a>) -> Result<u32>
     ensures reads { Reads (plain (λ n. n)) flag_bits result parser.old parser.new }
@@ -47,7 +47,8 @@ fn read_flag<'a>(parser: &mut Parser<'a>) -> Result<u32>
     Ok(bit)
 }
 
-/// The flags of a symbol, up to the end of the group: numbers and words, joined by or.
+/// Reads the flags of a symbol, up to the end of the group: numbers and keywords, joined by bitwise
+/// or.
 pub(crate) fn read_flags<'a>(parser: &mut Parser<'a>) -> Result<u32>
     ensures reads { Reads (plain (λ n. n)) symbol_flags result parser.old parser.new }
 {

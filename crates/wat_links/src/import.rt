@@ -48,7 +48,7 @@ pub enum ImportItemsOf<N, S> {
         /// The signature of the item.
         sig: S,
     },
-    /// Items with a signature each: `(import "m" (item "a" (func)) (item "b" (func)))`.
+    /// Items, each with its own signature: `(import "m" (item "a" (func)) (item "b" (func)))`.
     Group1 {
         /// The module name.
         module: N,
@@ -110,7 +110,7 @@ pub struct InlineImport<'a> {
     pub field: &'a str,
 }
 
-/// The signature of the item number i.
+/// Returns the signature of item number `i`, for writing.
 fn typed_sig_mut<N, S>(items: &mut Vec<ImportGroup1ItemOf<N, S>>, i: usize) -> Option<&mut S>
     ensures* writes_back { sem 𝓛 (LendsTyped N.row S.row i items.entry result) }
     ensures value { typed_sig_at i items.old.items ≡ option_map (λ r. r.now) result }
@@ -122,7 +122,7 @@ fn typed_sig_mut<N, S>(items: &mut Vec<ImportGroup1ItemOf<N, S>>, i: usize) -> O
 }
 
 impl<N, S> ImportItemsOf<N, S> {
-    /// The signature number i.
+    /// Returns signature number `i`, for writing.
     fn sig_mut(&mut self, i: usize) -> Option<&mut S>
         ensures* writes_back { sem 𝓛 (LendsItems N.row S.row i self.entry result) }
         ensures value { sig_at i self.old ≡ option_map (λ r. r.now) result }
@@ -135,7 +135,7 @@ impl<N, S> ImportItemsOf<N, S> {
     }
 }
 
-/// The signatures of the items.
+/// Returns the signatures of the items.
 fn typed_sigs<'s, N, S>(
     alloc: Global,
     items: &'s Vec<ImportGroup1ItemOf<N, S>>,
@@ -150,7 +150,7 @@ fn typed_sigs<'s, N, S>(
     Ok(sigs)
 }
 
-/// The signature, so many times.
+/// Returns a list that repeats the signature the given number of times.
 #[tactic(auto, using(crate::proofs::Sigs::one_more_copy))]
 fn repeated_sig<'s, S>(alloc: Global, sig: &'s S, count: usize) -> Result<Vec<&'s S>>
     ensures sigs { IfOk result (λ v. map (λ r. r.now) v.items ≡ replicate count sig.now) }
@@ -186,8 +186,8 @@ impl<N, S> ImportsOf<N, S> {
         }
     }
 
-    /// Returns the number of signatures in the text: one for each item, or 1 if the items share
-    /// one.
+    /// Returns the number of signatures in the text: 1 if the items share a signature, otherwise
+    /// the number of items.
     pub fn num_sigs(&self) -> usize
         ensures { result ≡ length (own_sigs self.now.items) }
     {
@@ -198,7 +198,7 @@ impl<N, S> ImportsOf<N, S> {
     }
 
     /// Returns the signature of each item, in order. A shared signature is repeated for each item.
-    /// Returns the error Memory only if there is an item.
+    /// Returns the error Memory only if the import has an item.
     #[tactic(auto, using(crate::proofs::Sigs::one_each))]
     pub fn item_sigs(&self, alloc: Global) -> Result<Vec<&S>>
         ensures sigs { IfOk result (λ v. map (λ r. r.now) v.items ≡ item_sigs self.now.items) }
@@ -214,7 +214,7 @@ impl<N, S> ImportsOf<N, S> {
     }
 
     /// Returns the signature number `i` in the text, counted from 0, for writing. Returns None if
-    /// `i` is at least [`num_sigs`](ImportsOf::num_sigs). A write changes that signature alone.
+    /// `i` is at least [`num_sigs`](ImportsOf::num_sigs). A write changes only that signature.
     #[tactic(auto, using(crate::proofs::Sigs::sig_is_own))]
     pub fn sig_mut(&mut self, i: usize) -> Option<&mut S>
         ensures* writes_back { sem 𝓛 (LendsImports N.row S.row i self.entry result) }
@@ -238,7 +238,7 @@ impl<'a> ImportGroup1Item<'a> {
     }
 }
 
-/// A copy of the items. Returns the error Memory only if there is an item.
+/// Returns a copy of the items. Returns the error Memory only if the list isn't empty.
 #[tactic(auto, using(crate::proofs::Same::clone_steps))]
 fn clone_items<'a>(items: &Vec<ImportGroup1Item<'a>>) -> Result<Vec<ImportGroup1Item<'a>>>
     ensures copies { Copies (λ x y. SameAll x.items y.items) (owning (λ v. map typed_view v.items)
@@ -251,7 +251,7 @@ fn clone_items<'a>(items: &Vec<ImportGroup1Item<'a>>) -> Result<Vec<ImportGroup1
     Ok(copies)
 }
 
-/// A copy of the items. Returns the error Memory only if there is an item.
+/// Returns a copy of the items. Returns the error Memory only if the list isn't empty.
 fn clone_names<'a>(items: &Vec<ImportGroup2Item<'a>>) -> Result<Vec<ImportGroup2Item<'a>>>
     ensures copies { Copies (λ x y. y.items ≡ x.items) (owning (λ v. map named_view v.items)
         no_items) result items.now }
@@ -333,7 +333,7 @@ impl<'a> Part<'a, ImportGroup1Item<'a>> for TypedItem {
     }
 }
 
-/// The error ImportMixed at the keyword `item`.
+/// Returns the error ImportMixed, at the keyword `item`.
 fn mixed(span: Span) -> Error
     ensures { result.fault ≡ Fault.ImportMixed }
 {
@@ -371,8 +371,8 @@ impl<'a> Part<'a, ImportGroup2Item<'a>> for NamedItem {
     }
 }
 
-/// `( ItemSig )` without an identifier, which is refused with ImportId, at the identifier: where
-/// the signature ends there, or the text.
+/// Reads `( ItemSig )` without an identifier. Returns ImportId, at the identifier, if the signature
+/// has an identifier and a `)` or the end of the text follows the signature.
 #[tactic(auto, using(crate::proofs::Ends::closes_none), unfolding(crate::specs::Import::shared_sig))]
 fn read_shared_sig<'a>(parser: &mut Parser<'a>) -> Result<ItemSig<'a>>
     ensures reads { Reads (owning sig_view bare_sig) shared_sig result parser.old parser.new }
@@ -389,7 +389,7 @@ fn read_shared_sig<'a>(parser: &mut Parser<'a>) -> Result<ItemSig<'a>>
     Ok(sig)
 }
 
-/// Whether `(`, `item` and a string are there, and then not what closes the group.
+/// Returns whether the next tokens are `(`, `item`, a string, and a token other than `)`.
 fn opens_typed(cursor: Cursor<'_>) -> bool
     ensures { result ≡ opens_typed (in_front cursor.entry) }
 {
@@ -405,14 +405,14 @@ fn opens_typed(cursor: Cursor<'_>) -> bool
     }
 }
 
-/// Whether nothing is left, or an item with more than a name is in front.
+/// Returns whether the group or the text ends next, or the next item has more than a name.
 fn typed_next(parser: &Parser<'_>) -> bool
     ensures { result ≡ typed parser.now.left }
 {
     parser.is_empty() || opens_typed(parser.cursor())
 }
 
-/// A single item.
+/// Reads a single item.
 #[tactic(auto, unfolding(crate::specs::Import::single_item))]
 fn read_single<'a>(parser: &mut Parser<'a>, module: &'a str) -> Result<ImportItems<'a>>
     ensures reads { Reads (owning items_view bare_items) single_item result parser.old parser.new }
@@ -423,7 +423,7 @@ fn read_single<'a>(parser: &mut Parser<'a>, module: &'a str) -> Result<ImportIte
     Ok(ImportItemsOf::Single { module, name, sig })
 }
 
-/// Items with signatures.
+/// Reads items with signatures.
 #[tactic(auto, using(crate::specs::Laws::Import::typed_item_consumes), unfolding(crate::specs::Import::typed_items, crate::specs::Import::typed_list))]
 fn read_typed<'a>(parser: &mut Parser<'a>, module: &'a str) -> Result<ImportItems<'a>>
     ensures reads { Reads (owning items_view bare_items) typed_items result parser.old parser.new }
@@ -434,7 +434,7 @@ fn read_typed<'a>(parser: &mut Parser<'a>, module: &'a str) -> Result<ImportItem
     Ok(ImportItemsOf::Group1 { module, items })
 }
 
-/// Items without signatures, and the one that they share.
+/// Reads items without signatures, and their shared signature.
 #[tactic(auto, using(crate::specs::Laws::Import::named_item_consumes), unfolding(crate::specs::Import::named_items, crate::specs::Import::named_list))]
 fn read_named<'a>(parser: &mut Parser<'a>, module: &'a str) -> Result<ImportItems<'a>>
     ensures reads { Reads (owning items_view bare_items) named_items result parser.old parser.new }
@@ -446,7 +446,7 @@ fn read_named<'a>(parser: &mut Parser<'a>, module: &'a str) -> Result<ImportItem
     Ok(ImportItemsOf::Group2 { module, sig, items })
 }
 
-/// What is imported from the module.
+/// Reads the imported items, after the module name.
 #[tactic(auto, unfolding(crate::specs::Forms::import_items, crate::specs::Import::import_choice))]
 fn read_items<'a>(parser: &mut Parser<'a>, module: &'a str) -> Result<ImportItems<'a>>
     ensures reads { Reads (owning items_view bare_items) import_items result parser.old parser.new }
@@ -469,9 +469,9 @@ fn read_items<'a>(parser: &mut Parser<'a>, module: &'a str) -> Result<ImportItem
 ///   ItemSig )` without an identifier,
 /// - otherwise an item name and `( ItemSig )`.
 ///
-/// An item with a signature after a first item without one, or the other way round, is the error
-/// ImportMixed, at its keyword `item`. An identifier of a shared signature is the error ImportId,
-/// at the identifier.
+/// Returns ImportMixed, at the keyword `item`, for an item with a signature after a first item
+/// without a signature, or the reverse. Returns ImportId, at the identifier, if a shared signature
+/// has an identifier and a `)` or the end of the text follows the signature.
 impl<'a> Parse<'a> for Imports<'a> {
     ghost View = { ImportsTy };
 

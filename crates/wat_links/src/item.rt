@@ -26,7 +26,7 @@ pub enum ItemKind<'a> {
     Global(GlobalType<'a>),
     /// A tag.
     Tag(TagType<'a>),
-    /// A function of exactly the type, and of no subtype: `(exact ..)`.
+    /// A function of exactly this type, not of a subtype: `(exact ..)`.
     FuncExact(TypeUse<'a, FunctionType<'a>>),
 }
 
@@ -76,8 +76,8 @@ impl<'a> ItemSig<'a> {
     }
 }
 
-/// Reads the type of a function, and returns whether it is exact. If the second token is `exact`,
-/// it reads a [`TypeUse`] in `( exact .. )`, and otherwise a [`TypeUse`] (WebAssembly Core
+/// Reads the type of a function, and returns the type and whether it is exact. Reads a [`TypeUse`]
+/// in `( exact .. )` if the second token is `exact`, and otherwise a [`TypeUse`] (WebAssembly Core
 /// Specification, Text Format, Types, "External Types").
 #[tactic(auto, unfolding(crate::specs::Item::exact_use))]
 pub fn take_exact_use<'a>(parser: &mut Parser<'a>) -> Result<(TypeUse<'a, FunctionType<'a>>, bool)>
@@ -90,7 +90,7 @@ pub fn take_exact_use<'a>(parser: &mut Parser<'a>) -> Result<(TypeUse<'a, Functi
     Ok((in_word_group(parser, "exact")?, true))
 }
 
-/// A function of the type, exact or not.
+/// Reads the type of a function, and returns the kind, exact or not.
 #[tactic(auto, using(crate::proofs::ItemKinds::kind_not_bare), unfolding(crate::specs::Item::func_kind))]
 fn read_func_kind<'a>(parser: &mut Parser<'a>) -> Result<ItemKind<'a>>
     ensures reads { Reads (owning item_kind_view bare_item_kind) func_kind result parser.old
@@ -103,7 +103,7 @@ fn read_func_kind<'a>(parser: &mut Parser<'a>) -> Result<ItemKind<'a>>
     Ok(ItemKind::Func(ty))
 }
 
-/// `global` or `tag`, a label, and a type.
+/// Reads `global` or `tag`, a label, and a type.
 #[tactic(auto, unfolding(crate::specs::Item::global_or_tag))]
 fn read_global_or_tag<'a>(parser: &mut Parser<'a>) -> Result<ItemSig<'a>>
     ensures reads { Reads (owning sig_view bare_sig) global_or_tag result parser.old parser.new }
@@ -131,8 +131,8 @@ fn read_global_or_tag<'a>(parser: &mut Parser<'a>) -> Result<ItemSig<'a>>
 }
 
 /// Reads `func`, `table`, `memory`, `global` or `tag`, an optional identifier, an optional name
-/// annotation, and the type. Any other first token is the error Unexpected, at the token. The type
-/// of a function is read by [`take_exact_use`].
+/// annotation, and the type. Returns Unexpected, at the first token, if that token is any other.
+/// [`take_exact_use`] reads the type of a function.
 impl<'a> Parse<'a> for ItemSig<'a> {
     ghost View = { SigTy };
 

@@ -1,20 +1,19 @@
-//! Texts that spell imports, exports and custom sections, as contracts. The functions here do
-//! nothing: they are public for their contracts alone.
+//! Sample texts that spell imports, exports and custom sections, as contracts. The functions do
+//! nothing: only their contracts matter.
 
 ghost use Rattle.wat_links.specs.CustomRows.{Places, Exports, Sizes};
 ghost use Rattle.wat_links.specs.LinkRows.{Imports, InlineNames};
 
-/// Sample texts and the custom sections that they spell. The facts are about the definitions alone,
-/// so they show an error that a parser shares with its definition. The function does nothing.
+/// Sample texts and the custom sections that they spell. The facts use only the definitions, so
+/// they can reveal an error that a parser shares with its definition. The function does nothing.
 pub fn custom_rows()
     ensures places { Places }
     ensures exports { Exports }
     ensures sizes { Sizes }
 {}
 
-/// Sample texts and the imports and exports that they spell. The facts are about the definitions
-/// alone, so they show an error that a parser shares with its definition. The function does
-/// nothing.
+/// Sample texts and the imports and exports that they spell. The facts use only the definitions,
+/// so they can reveal an error that a parser shares with its definition. The function does nothing.
 pub fn link_rows()
     ensures imports { Imports }
     ensures inline_names { InlineNames }

@@ -1,9 +1,9 @@
 //! Imports, exports and custom sections of the WebAssembly text format (WebAssembly Core
 //! Specification, Text Format, "Imports", "Exports" and "Custom Annotation").
 //!
-//! Each type is read from tokens by [`wat_tokens::Parse`]. Names and indices aren't resolved. The
-//! text has custom sections as annotations. A parser sees an annotation only if it is known. The
-//! types of custom sections are read after the `(` of the annotation.
+//! [`wat_tokens::Parse`] reads each type from tokens. Names and indices aren't resolved. Custom
+//! sections are annotations in the text. A parser sees an annotation only if the annotation is
+//! known. The types of custom sections are read after the `(` of the annotation.
 #![tactic(auto)]
 
 pub mod custom;

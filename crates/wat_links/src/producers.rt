@@ -18,8 +18,8 @@ use wat_tokens::{Error, Fault, Parse, Parser, Result};
 /// Specification, Text Format, "Custom Annotation", and the tool conventions on this section).
 #[derive(Debug, Drop)]
 pub struct Producers<'a> {
-    /// The fields `language`, `sdk` and `processed-by`, in this order. Each has its entries, a name
-    /// and a version, in the order of the text. Fields without entries are left out.
+    /// The fields `language`, `sdk` and `processed-by`, in this order. Each field has its entries,
+    /// a name and a version, in the order of the text. Fields without entries are left out.
     pub fields: Vec<(&'a str, Vec<(&'a str, &'a str)>)>,
 }
 
@@ -42,7 +42,7 @@ struct ProducerEntry<'a> {
     version: &'a str,
 }
 
-/// The field that a keyword names.
+/// The fields by keyword.
 impl NamedByKeyword for Field {
     ghost words = { field_words };
 
@@ -57,7 +57,7 @@ impl NamedByKeyword for Field {
 }
 
 impl Field {
-    /// Its word.
+    /// Returns the keyword of the field.
     fn word(self) -> &'static str
         ensures { result.now ≡ word_of self }
     {
@@ -68,7 +68,7 @@ impl Field {
         }
     }
 
-    /// Whether it is the other one.
+    /// Returns whether the two fields are the same.
     fn is(self, other: Field) -> bool
         ensures { result ≡ same_field self other }
     {
@@ -81,7 +81,7 @@ impl Field {
     }
 }
 
-/// The word of a field.
+/// Reads the keyword of a field.
 impl<'a> Parse<'a> for Field {
     ghost use Rattle.wat_links.specs.declared.producers.Field.{Field};
 
@@ -97,7 +97,7 @@ impl<'a> Parse<'a> for Field {
     }
 }
 
-/// A field's word, a name and a version, in parentheses.
+/// Reads the keyword of a field, a name and a version, in parentheses.
 impl<'a> Parse<'a> for ProducerEntry<'a> {
     ghost View = { ProducerTy };
 
@@ -120,7 +120,7 @@ impl<'a> Parse<'a> for ProducerEntry<'a> {
     }
 }
 
-/// The entries of the field.
+/// Returns the entries of the field.
 fn field_entries<'a>(
     alloc: Global,
     entries: &[ProducerEntry<'a>],
@@ -139,7 +139,7 @@ fn field_entries<'a>(
     Ok(found)
 }
 
-/// Appends the field with its entries, if it has entries.
+/// Appends the field with its entries, if the field has entries.
 fn add_field<'a>(
     fields: &mut Vec<(&'a str, Vec<(&'a str, &'a str)>)>,
     entries: &[ProducerEntry<'a>],
@@ -157,7 +157,7 @@ fn add_field<'a>(
     Ok(())
 }
 
-/// The fields of the entries. Returns the error Memory only if there is an entry.
+/// Returns the fields of the entries. Returns the error Memory only if the list has an entry.
 fn fields_of<'a>(
     alloc: Global,
     entries: &[ProducerEntry<'a>],
@@ -178,8 +178,8 @@ fn fields_of<'a>(
 }
 
 /// Reads `@producers`, and entries up to the end of the group: `( language name version )`, `( sdk
-/// name version )` and `( processed-by name version )`, in any order. Any other keyword is the
-/// error Unexpected, at the keyword.
+/// name version )` and `( processed-by name version )`, in any order. Returns Unexpected, at the
+/// keyword, for any other keyword.
 impl<'a> Parse<'a> for Producers<'a> {
     ghost View = { List (List ℕ × List Versioned) };
 

@@ -17,13 +17,13 @@ pub struct RawCustomSection<'a> {
     pub span: Span,
     /// The name of the section.
     pub name: &'a str,
-    /// The place of the section; after the last section if the text gives none.
+    /// The place of the section; after the last section if the text has no place.
     pub place: CustomPlace,
     /// The bytes of the section: the strings of the text, in order, decoded.
     pub data: Vec<&'a [u8]>,
 }
 
-/// `( place )` if a `(` is next, and otherwise the place after the last section.
+/// Reads `( place )` if the next token is `(`. Otherwise returns the place after the last section.
 #[tactic(auto, unfolding(crate::specs::Raw::raw_place))]
 fn read_place<'a>(parser: &mut Parser<'a>) -> Result<CustomPlace>
     ensures reads { Reads (plain (λ p. p)) raw_place result parser.old parser.new }

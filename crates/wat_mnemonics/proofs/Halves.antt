@@ -1,4 +1,4 @@
--- A search by halves.
+-- A binary search.
 use Rattle.std.proofs.Common.{◌≡◌, ℕ, zero, suc, ◌+◌, ◌-◌, ◌*◌, ◌/◌, ◌<◌, ◌≤◌, List, [], length, get_or, arith, ap, ◌∙◌}
 use Rattle.std.specs.declared.cmp.Ordering.TheVariants.{Less, Greater}
 use Rattle.wat_tokens.specs.State.{State}
@@ -10,7 +10,7 @@ use Rattle.wat_mnemonics.specs.declared.op.Op.{Op}
 use Rattle.wat_mnemonics.proofs.RowsBelow.{found_at}
 use Rattle.wat_mnemonics.proofs.WordOrder.{below_less, above_greater, absent}
 
--- ---- the halves of a stretch, by how the entry between them and the text compare
+-- ---- the halves of a stretch, by the comparison of the middle entry with the text
 
 pub upper_half : (base size : ℕ) (t : List ℕ) → 1 < size → IsWithin base size t → cmp (get_or words (base + size / 2 - 1) []) t ≡ Less → IsWithin (base + size / 2) (size - size / 2) t
 upper_half base size t l w e =
@@ -28,28 +28,28 @@ lower_half base size t l w e = record {
   more = λ k u v. above_greater words t (base + size / 2 - 1) words_rise e k (omega (arith, u, l)) (let s = words_length in omega (arith, v));
 }
 
--- a text in a stretch with no entry is no word
+-- a text is no word if its stretch has no entry
 pub no_place : (base size : ℕ) (t : List ℕ) → size ≤ 1 → IsWithin base size t → (h : Op) → op_word h ≡ t → ⊥
 no_place base size t l w h e =
     let p : (k : ℕ) × (k < 623) × (get_or words k [] ≡ op_word h) = found_at h in
     let s : length words ≡ 623 = words_length in
     absent words t base base (omega arith) w.less (λ k u v. w.more k (omega (arith, u, l)) (omega (arith, v, s))) p.0 (omega (arith, p.1, s)) (p.2 ∙ e)
 
--- ---- how often a stretch can be halved
+-- ---- the number of times that a stretch can be halved
 
--- b is a after one comparison more
+-- b is a with one more comparison counted
 abbrev pub Probed : State → State → Type 0
 Probed a b = b ≡ record a { probes = a.probes + 1 }
 
 pub one_more : (a b : State) → Probed a b → b.probes ≡ a.probes + 1
 one_more a b e = ap (λ (s : State). s.probes) e
 
--- then its greater half is short enough
+-- after the comparison, the greater half is short enough
 pub few_left : (size most : ℕ) (a b : State) → 1 < size → Probed a b → IsFew size a.probes most → IsFew (size - size / 2) b.probes most
 few_left size most a b l e (zero, f, s) = absurd (omega (arith, l, s))
 few_left size most a b l e (suc k, f, s) = (k, omega (arith, one_more a b e, f), omega (arith, s))
 
--- the comparisons that are made are not too many
+-- the number of comparisons made is at most the bound
 pub few_made : (size p most : ℕ) → IsFew size p most → p ≤ most
 few_made size p most (k, f, s) = omega (arith, f)
 
@@ -57,6 +57,6 @@ few_made size p most (k, f, s) = omega (arith, f)
 pub made_one : (n size left : ℕ) (a b : State) → Probed a b → size ≤ 624 → 624 + 624 * n ≤ size + 624 * a.probes → 624 + 624 * n ≤ left + 624 * b.probes
 made_one n size left a b e l h = omega (arith, one_more a b e, l, h)
 
--- where only the count of comparisons had changed, it still is all
+-- if only the count of comparisons had changed, only that count has changed after more comparisons
 pub probed_only : (a b e : State) (n : ℕ) → b ≡ record a { probes = b.probes } → e ≡ record b { probes = n } → e ≡ record a { probes = e.probes }
 probed_only a b e n p q = rw (q) (ap (λ (s : State). record s { probes = n }) p)

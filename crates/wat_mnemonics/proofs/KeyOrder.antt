@@ -1,4 +1,4 @@
--- The keys of words, and how words compare by them.
+-- The keys of words, and comparisons of words by keys.
 use Rattle.std.proofs.Common.{◌≡◌, ℕ, zero, suc, ◌+◌, ◌-◌, ◌*◌, ◌<◌, ◌≤◌, ◌⊎◌, inl, inr, Bool, true, List, [], ◌∷◌, length, drop, get_or, map, refl, sym, ◌∙◌, ap, arith}
 use Rattle.std.specs.Cmp.{nat_cmp_is, first_so, second_so}
 use Rattle.std.specs.Ordering.{nat_cmp, ordering_then}
@@ -29,7 +29,7 @@ key_at k l =
 abbrev IsBytes : List ℕ → Type 0
 IsBytes t = (i : ℕ) → get_or t i 0 < 256
 
--- what passes for all of a list passes at each place, where it does for what is past the end
+-- a test that all items of a list and the default pass is passed at each index
 passes_at : {X : Type 0} (test : X → Bool) (d : X) → test d ≡ true → (xs : List X) → list_all test xs ≡ true → (k : ℕ) → test (get_or xs k d) ≡ true
 passes_at test d p [] e zero = p
 passes_at test d p [] e (suc k) = p
@@ -49,7 +49,7 @@ word_bytes : (k : ℕ) → IsBytes (get_or words k [])
 word_bytes k i =
     ltb-true (get_or (get_or words k []) i 0) 256 (passes_at is_byte 0 refl (get_or words k []) (passes_at are_bytes [] refl words words_are k) i)
 
--- ---- the number of the first bytes tells how texts compare
+-- ---- the number of the first bytes decides the order of texts
 
 -- equal numbers have equal bytes
 same_bytes : (n : ℕ) (a b : List ℕ) → IsBytes a → IsBytes b → number_of a n ≡ number_of b n → (k : ℕ) → k < n → get_or a k 0 ≡ get_or b k 0
@@ -89,7 +89,7 @@ below_by (suc n) a b p q l =
           | inr s ↦ inr (omega (arith, p, q, l, s), omega (arith, p, q, l, s))
         ]
 
--- lists of at most n bytes and of one length compare as their numbers do
+-- lists of one length, of at most n bytes, compare as their numbers do
 by_number : (n : ℕ) (a b : List ℕ) → IsBytes a → IsBytes b → length a ≡ length b → length b ≤ n → cmp a b ≡ nat_cmp (number_of a n) (number_of b n)
 by_number n a b p q s l =
     elim (cases_lt (number_of a n) (number_of b n)) [
@@ -117,7 +117,8 @@ remaining_bytes n a p i = omega (arith, get_or-drop n a i 0, p (n + i))
 abbrev pub last_key : List ℕ → ℕ
 last_key a = key (drop (length a - 8) a)
 
--- lists of one length, of 8 to 16 bytes of which the first eight are the same, compare as their last eight do
+-- lists of one length, from 8 to 16 bytes, with the same first eight bytes compare as their last
+-- eight bytes do
 by_last : (a b : List ℕ) → IsBytes a → IsBytes b → length a ≡ length b → 8 ≤ length b → length b ≤ 16 → ((k : ℕ) → k < 8 → get_or a k 0 ≡ get_or b k 0) → cmp a b ≡ nat_cmp (last_key a) (last_key b)
 by_last a b p q s l u e =
     rw s (by_remaining (length b - 8) a b (omega (arith, s)) (omega arith) (λ k v. e k (omega (arith, v, u)))

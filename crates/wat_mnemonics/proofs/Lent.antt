@@ -1,4 +1,4 @@
--- What a list of references to texts holds at a place, by the list of the texts.
+-- The item of a list of references to texts at an index, by the list of the texts.
 use Rattle.std.proofs.Common.{◌≡◌, ℕ, List, get_or, map, sym}
 use Rattle.std.proofs.Math.ListN.{get_or-map}
 use Rattle.std.specs.Borrow.{Bor}

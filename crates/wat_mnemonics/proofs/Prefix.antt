@@ -1,4 +1,4 @@
--- No opcode begins another's: the bytes in front tell the instruction.
+-- No opcode is a prefix of another opcode: the first bytes determine the instruction.
 use Rattle.std.proofs.Common.{◌≡◌, ℕ, ◌+◌, ◌-◌, ◌*◌, nat_lt, nat_eq, if◌then◌else◌, List, [], ◌∷◌, ◌++◌, get_or, refl, sym, ◌∙◌, ap, subst, Option, Some, None}
 use Rattle.std.proofs.lemmas.List.{append-nil}
 use Rattle.wat_mnemonics.specs.Ops.{op_opcode}
@@ -22,15 +22,15 @@ abbrev tail : List ℕ → List ℕ
 tail [] = []
 tail (x ∷ xs) = xs
 
--- the number in LEB128 in front
+-- the LEB128 number at the beginning
 abbrev number_of : List ℕ → ℕ
 number_of r = if nat_lt (get_or r 0 0) 128 then get_or r 0 0 else (get_or r 0 0 - 128) + 128 * get_or r 1 0
 
--- where the place of the opcode in front is
+-- the index, in places_of_opcodes, of the opcode at the beginning
 abbrev code_of : List ℕ → ℕ
 code_of r = if nat_eq (get_or r 0 0) 0xfd then 264 + number_of (tail r) else if nat_eq (get_or r 0 0) 0xfc then 256 + get_or (tail r) 0 0 else get_or r 0 0
 
--- the bytes before any others tell the place
+-- the bytes of an opcode, before any other bytes, determine the place
 abbrev Tells : Option (List ℕ) → List ℕ → ℕ → Type 0
 Tells None d n = n ≡ n
 Tells (Some b) d n = get_or places_of_opcodes (code_of (b ++ d)) 0 ≡ n

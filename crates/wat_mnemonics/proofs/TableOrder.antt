@@ -1,4 +1,4 @@
--- The table of the code.
+-- The table in the code.
 use Rattle.std.proofs.Common.{◌≡◌, ◌<◌, ℕ, List, [], get_or, map, refl, subst, sym, ap, ◌∙◌, IsTrue}
 use Rattle.wat_mnemonics.specs.Ops.{op_word}
 use Rattle.wat_mnemonics.specs.Order.{rises, words, first}

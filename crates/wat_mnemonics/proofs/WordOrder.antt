@@ -1,4 +1,4 @@
--- Where a word is among words in order.
+-- The index of a word among words in order.
 use Rattle.std.proofs.Common.{◌≡◌, ℕ, zero, suc, ◌+◌, ◌<◌, ◌≤◌, List, [], ◌∷◌, length, get_or, refl, sym, ◌∙◌, ap, arith, IsTrue, inl, inr, ◌⊎◌}
 use Rattle.std.specs.Cmp.{nat_cmp_is}
 use Rattle.std.specs.Ordering.{nat_cmp, ordering_reverse, ordering_then}
@@ -14,7 +14,7 @@ greater_back x y h = nat_list_cmp_total.antisymm y x ∙ ap ordering_reverse h
 pub less_back : (x y : List ℕ) → cmp x y ≡ Less → cmp y x ≡ Greater
 less_back x y h = nat_list_cmp_total.antisymm y x ∙ ap ordering_reverse h
 
--- what is below an entry that is less is less
+-- every entry below an entry that is less is less
 pub below_less : (xs : List (List ℕ)) (t : List ℕ) (m : ℕ) → IsTrue (rises xs) → m < length xs → cmp (get_or xs m []) t ≡ Less → (k : ℕ) → k < m + 1 → cmp (get_or xs k []) t ≡ Less
 below_less xs t m h b e k l =
     elim (split k m (omega arith)) [
@@ -25,7 +25,7 @@ below_less xs t m h b e k l =
     split : (k m : ℕ) → k ≤ m → (k < m) ⊎ (k ≡ m)
     split k m l = grind arith
 
--- what is above an entry that is greater is greater
+-- every entry above an entry that is greater is greater
 pub above_greater : (xs : List (List ℕ)) (t : List ℕ) (m : ℕ) → IsTrue (rises xs) → cmp (get_or xs m []) t ≡ Greater → (k : ℕ) → m ≤ k → k < length xs → cmp (get_or xs k []) t ≡ Greater
 above_greater xs t m h e k l b =
     elim (split m k l) [
@@ -36,7 +36,7 @@ above_greater xs t m h e k l b =
     split : (m k : ℕ) → m ≤ k → (m < k) ⊎ (m ≡ k)
     split m k l = grind arith
 
--- what is at no place, since each entry is less or greater
+-- a text is at no index if each entry is less or greater
 pub absent : (xs : List (List ℕ)) (t : List ℕ) (low high : ℕ) → high ≤ low → ((k : ℕ) → k < low → cmp (get_or xs k []) t ≡ Less) → ((k : ℕ) → high ≤ k → k < length xs → cmp (get_or xs k []) t ≡ Greater) → (k : ℕ) → k < length xs → get_or xs k [] ≡ t → ⊥
 absent xs t low high h less more k l e =
     elim (split k low) [
@@ -51,7 +51,7 @@ absent xs t low high h less more k l e =
     split : (k low : ℕ) → (k < low) ⊎ (low ≤ k)
     split k low = grind arith
 
--- ---- how lists compare whose first n bytes are the same, where those that the second lacks are 0
+-- ---- comparisons of lists with the same first n bytes, with 0 for each byte that the second lacks
 
 pub same_so_far : (n : ℕ) (a b : List ℕ) → length b ≤ n → ((k : ℕ) → k < n → get_or a k 0 ≡ get_or b k 0) → cmp a b ≡ nat_cmp (length a) (length b)
 same_so_far n [] [] l e = refl

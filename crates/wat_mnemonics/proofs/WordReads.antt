@@ -1,4 +1,4 @@
--- What the production of a mnemonic reads at a word.
+-- The value that the production of a mnemonic reads at a word.
 use Rattle.std.specs.Prelude.{◌≡◌, ℕ, List, [], ◌∷◌, Some, None, refl}
 use Rattle.std.proofs.Common.{ap, sym, ◌∙◌}
 use Rattle.std.specs.Str.{bytes_eq}
@@ -25,7 +25,7 @@ mnemonic_of_none : (w : List ℕ) → ((x : Op) → op_word x ≡ w → ⊥) →
 unfolding mnemonic_of
 mnemonic_of_none w f = first_none w all_ops f
 
--- ---- by what the word in front is
+-- ---- by the next word
 
 pub reads_word : (t : List Tok) (w : List ℕ) (r : List Tok) (x : Op) → one_reads as_keyword t ≡ Some (w, r) → op_word x ≡ w → mnemonic_reads t ≡ Some (x, r)
 reads_word [] w r x e h = absurd cc
@@ -46,5 +46,5 @@ reads_no_word [] e = refl
 reads_no_word (Keyword k ∷ t) e = absurd cc
 reads_no_word (_ ∷ t) e = refl
 
--- where no instruction's word is in front
+-- if the next token isn't the word of an instruction
 pub ruleset reads_nothing = (reads_other_word, reads_no_word)

@@ -1,20 +1,20 @@
--- What a search by halves has left of the table.
+-- The stretch of the table that a binary search has left.
 use Rattle.std.specs.Prelude.{◌≡◌, ℕ, zero, suc, ◌+◌, ◌<◌, ◌≤◌, []}
 use Rattle.std.proofs.Common.{get_or}
 use Rattle.std.specs.Prelude.{List}
 use Rattle.wat_mnemonics.specs.Order.{words, IsBelow, IsAbove}
 
--- the entries before the base are less than a text, and those from base + size - 1 on are greater
+-- the entries before base are less than the text, and all from base + size - 1 on are greater
 pub record IsWithin (base size : ℕ) (text : List ℕ) : Type 0 where
   pub bound : base + size ≤ 624
   pub less : (k : ℕ) → k < base → IsBelow (get_or words k []) text
   pub more : (k : ℕ) → base + size ≤ k + 1 → k < 623 → IsAbove (get_or words k []) text
 
--- a stretch that is shorter can be halved at most so often
+-- room k: a stretch of at most so many entries can be halved at most k times
 abbrev pub room : ℕ → ℕ
 room zero = 1
 room (suc k) = room k + room k
 
--- the stretch is short enough for the comparisons that are left
+-- size is small enough for the most - made comparisons that are left
 abbrev pub IsFew : ℕ → ℕ → ℕ → Type 0
 IsFew size made most = (k : ℕ) × (made + k ≡ most) × (size ≤ room k)

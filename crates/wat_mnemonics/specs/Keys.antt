@@ -2,11 +2,11 @@
 use Rattle.std.specs.Prelude.{ℕ, zero, suc, ◌+◌, ◌*◌, List}
 use Rattle.std.proofs.Common.{get_or}
 
--- the first n bytes as one number, the first the most significant; a 0 stands for each that lacks
+-- the first n bytes as one number, the first byte the most significant, with 0 for missing bytes
 abbrev pub number_of : List ℕ → ℕ → ℕ
 number_of bytes zero = 0
 number_of bytes (suc n) = number_of bytes n * 256 + get_or bytes n 0
 
--- the first eight
+-- the number of the first eight bytes
 abbrev pub key : List ℕ → ℕ
 key bytes = number_of bytes 8

@@ -20,7 +20,8 @@ abbrev pub Written : Option (List ℕ) → List ℕ → List ℕ → Option ℕ 
 Written None before after n = (after ≡ before) × (n ≡ None)
 Written (Some b) before after n = (after ≡ before ++ b) × (n ≡ Some (length b))
 
--- that; or nothing is appended, and the error is Memory, which needs bytes to append
+-- `Written` on success. On an error, nothing is appended, the error is Memory, and the opcode has
+-- bytes.
 abbrev pub Appends : Option (List ℕ) → List ℕ → List ℕ → Result (Option ℕ) Error → Type 0
 Appends b before after (Ok n) = Written b before after n
 Appends b before after (Err e) = (after ≡ before) × (e.fault ≡ Memory) × (IsSome b)

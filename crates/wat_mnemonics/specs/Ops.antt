@@ -70,7 +70,7 @@ op_word h.ref_cast_desc_eq = codes "ref.cast_desc_eq"
 op_word h.br_on_cast_desc_eq = codes "br_on_cast_desc_eq"
 op_word h.br_on_cast_desc_eq_fail = codes "br_on_cast_desc_eq_fail"
 
--- the number of its row in the table
+-- the number of the instruction's row in the table
 abbrev pub op_row : Op → ℕ
 op_row (h.Block x) = block_row x
 op_row (h.Label x) = label_row x
@@ -123,7 +123,7 @@ op_row h.ref_cast_desc_eq = 620
 op_row h.br_on_cast_desc_eq = 621
 op_row h.br_on_cast_desc_eq_fail = 622
 
--- what stands for it in a binary module
+-- the instruction's opcode in a binary module
 abbrev pub op_opcode : Op → Opcode
 op_opcode (h.Scalar x) = scalar_opcode x
 op_opcode (h.Vector x) = vector_opcode x

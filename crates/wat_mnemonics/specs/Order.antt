@@ -1,4 +1,4 @@
--- Words in strict order, and the table's.
+-- Words in strict order, and the words of the table.
 use Rattle.std.proofs.Common.{◌≡◌, ℕ, List, [], ◌∷◌, map, Bool, true, ◌&&◌}
 use Rattle.std.specs.Cmp.Lexicographic.{slice_cmp}
 use Rattle.std.specs.Ordering.{nat_cmp, is_lt}
@@ -10,11 +10,11 @@ use Rattle.wat_mnemonics.specs.declared.op.Op.TheVariants as h
 use Rattle.wat_mnemonics.specs.declared.indexed.BlockOp.TheVariants as block
 use Rattle.wat_mnemonics.specs.Table.{all_ops}
 
--- what reading past the end gives
+-- the default for an index past the end
 abbrev pub first : Op
 first = h.Block block.block
 
--- how two lists of bytes compare
+-- the order of two lists of bytes
 abbrev pub cmp : List ℕ → List ℕ → Ordering
 cmp = slice_cmp nat_cmp
 
@@ -24,7 +24,7 @@ IsBelow x y = cmp x y ≡ Less
 abbrev pub IsAbove : List ℕ → List ℕ → Type 0
 IsAbove x y = cmp x y ≡ Greater
 
--- each list of bytes stands before the next
+-- each list of bytes is less than the next
 abbrev pub rises : List (List ℕ) → Bool
 rises [] = true
 rises (x ∷ []) = true

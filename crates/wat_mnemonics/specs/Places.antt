@@ -1,4 +1,4 @@
--- Where in the table each instruction is, by its row.
+-- The index of each instruction in the table, by its row.
 use Rattle.std.proofs.Common.{ℕ, List, [], ◌∷◌, get_or}
 use Rattle.wat_mnemonics.specs.Ops.{op_row}
 use Rattle.wat_mnemonics.specs.Order.{first}

@@ -1,4 +1,4 @@
--- What is counted where a word is looked up.
+-- The counts of the lookup of a word.
 use Rattle.std.specs.Prelude.{◌+◌, ◌≤◌, Result}
 use Rattle.wat_tokens.specs.Cost.{words_too}
 use Rattle.wat_tokens.specs.Error.{Error}
@@ -12,7 +12,7 @@ use Rattle.wat_mnemonics.specs.declared.op.Op.{Op}
 abbrev pub AtMostTen : State → State → Type 0
 AtMostTen a b = (a.probes ≤ b.probes) × (b.probes ≤ a.probes + 10)
 
--- it answers the instruction whose word is in front, takes no memory, and counts no turn and no
--- height
+-- the call returns the instruction whose word is the next token, allocates no memory, and counts no
+-- turn and no height
 abbrev pub ReadsWord : Result Op Error → State → State → Type 0
 ReadsWord r a b = ReadsAt words_too (plain (λ op. op)) mnemonic r a b

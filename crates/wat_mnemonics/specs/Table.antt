@@ -1,4 +1,4 @@
--- The instructions in the order of the bytes of their words.
+-- The instructions, in the byte order of their words.
 use Rattle.std.specs.Prelude.{List, [], ◌∷◌}
 use Rattle.wat_mnemonics.specs.declared.op.Op.{Op}
 use Rattle.wat_mnemonics.specs.declared.op.Op.TheVariants as h

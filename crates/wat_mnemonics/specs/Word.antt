@@ -8,7 +8,7 @@ use Rattle.wat_mnemonics.specs.Ops.{op_word}
 use Rattle.wat_mnemonics.specs.declared.op.Op.{Op}
 use Rattle.wat_mnemonics.specs.Table.{all_ops}
 
--- the first of the instructions with the word
+-- the first instruction with the word
 abbrev pub first_with : List ℕ → List Op → Option Op
 first_with w [] = None
 first_with w (x ∷ xs) = if bytes_eq (op_word x) w then Some x else first_with w xs

@@ -343,7 +343,7 @@ impl RmwAccessOp {
     }
 }
 
-/// The word of each, in the order of the variants.
+/// The mnemonic of each variant, in the order of the variants.
 static RMW_WORDS: [&str; 49] = [
     "i32.atomic.rmw.add",
     "i64.atomic.rmw.add",

@@ -12,10 +12,10 @@ use crate::op::Op;
 use crate::same_key::find_whole;
 use wat_tokens::{Error, Fault, Parser, Result};
 
-/// Returns the instruction with the mnemonic `text`, or None if there is none.
+/// Returns the instruction with the mnemonic `text`, or None if no instruction has this mnemonic.
 ///
-/// It is a binary search of the table of mnemonics. It makes 1 to 10 comparisons with entries; the
-/// parser counts them, and doesn't change otherwise.
+/// The function is a binary search of the table of mnemonics. The search makes 1 to 10 comparisons
+/// with entries. The parser counts the comparisons, and doesn't change otherwise.
 pub fn find(parser: &mut Parser<'_>, text: &str) -> Option<Op>
     ensures found { IfSome result (λ op. op_word op ≡ text.now) }
     ensures missing { IfNone result ((op : AnyOp) → op_word op ≢ text.now) }
@@ -27,7 +27,7 @@ pub fn find(parser: &mut Parser<'_>, text: &str) -> Option<Op>
     let key = key_of(text);
     let mut base = 0;
     let mut size = 624;
-    // (the entries before the base are less, and those from base + size - 1 on are greater)
+    // (the entries before base are less, and the entries from base + size - 1 on are greater)
     'halves: while size > 1 {
         let half = size / 2;
         let entry = KEYS[base + half - 1];
@@ -44,7 +44,7 @@ pub fn find(parser: &mut Parser<'_>, text: &str) -> Option<Op>
 impl Op {
     /// Parses a mnemonic.
     ///
-    /// The error is Operator, at the next token, if that is not a mnemonic.
+    /// Returns Operator, at the next token, if the next token isn't a mnemonic.
     #[inline(always)]
     #[tactic(auto, using(crate::proofs::WordReads::reads_nothing))]
     pub fn take(parser: &mut Parser<'_>) -> Result<Op>

@@ -4,7 +4,8 @@ ghost use Rattle.std.specs.Prelude.{◌≡◌, ◌+◌, ◌-◌, ◌*◌, ◌<�
 ghost use Rattle.std.proofs.Common.{get_or};
 ghost use Rattle.wat_mnemonics.specs.Keys.{key, number_of};
 
-/// Appends the byte at an offset to a number, as its lowest eight bits; 0 if the text is shorter.
+/// Appends the byte at an offset to a number, as its lowest eight bits. Appends 0 if the text is
+/// shorter.
 fn with_byte(number: u64, bytes: &[u8], place: usize) -> u64
     requires room { number < 0x0100_0000_0000_0000 }
     ensures value { result ≡ number * 256 + get_or bytes.now place 0 }
@@ -52,8 +53,8 @@ fn first_eight(bytes: &[u8]) -> u64
     ])
 }
 
-/// The first eight bytes of a text as one number, the first the most significant: zeros stand for
-/// the bytes that a shorter text lacks.
+/// The first eight bytes of a text as one number, the first byte the most significant. A shorter
+/// text is padded with zeros.
 pub(crate) fn key_of(text: &str) -> u64
     ensures { result ≡ key text.now }
 {
@@ -64,7 +65,7 @@ pub(crate) fn key_of(text: &str) -> u64
     first_eight(bytes)
 }
 
-/// The last eight bytes of a text as one number, the first of them the most significant.
+/// The last eight bytes of a text as one number, the first of these bytes the most significant.
 pub(crate) fn last_eight(text: &str) -> u64
     requires { 8 ≤ length text.now }
     ensures { result ≡ key (drop (length text.now - 8) text.now) }

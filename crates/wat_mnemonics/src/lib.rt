@@ -2,11 +2,11 @@
 //! operands (WebAssembly Core Specification, Text Format, "Instructions").
 //!
 //! An [`Op`](op::Op) is an instruction without its operand. It has a mnemonic, and an opcode if
-//! Core Specification 2.0 defines one and the instruction has no operand. [`find`](find::find)
+//! Core Specification 2.0 defines it and the instruction has no operand. [`find`](find::find)
 //! looks up a mnemonic by binary search.
 //!
-//! A variant is named as its mnemonic, with `_` in place of `.`, and with a `_` at the end if the
-//! mnemonic is a keyword of Rust.
+//! A variant has the name of its mnemonic, with `_` in place of `.`, and with a `_` at the end if
+//! the mnemonic is a keyword of Rust.
 #![tactic(auto)]
 
 pub mod access;

@@ -16,7 +16,8 @@ use crate::vector::VectorOp;
 /// "Instructions").
 ///
 /// Instructions with the same kind of operand share a variant, which holds an enumeration of their
-/// mnemonics. An instruction that has its kind of operand alone is a variant of its own.
+/// mnemonics. If no other instruction has the same kind of operand, the instruction has its own
+/// variant.
 #[derive(Clone, Copy, Debug, PartialEq, Eq)]
 #[allow(non_camel_case_types)]
 pub enum Op {
@@ -131,8 +132,8 @@ impl Op {
         }
     }
 
-    /// Returns the opcode (WebAssembly Core Specification 2.0, "Index of Instructions"). It is
-    /// `Absent` if the instruction has an operand or isn't in that version.
+    /// Returns the opcode (WebAssembly Core Specification 2.0, "Index of Instructions"). The opcode
+    /// is `Absent` if the instruction has an operand or isn't in that version.
     pub fn opcode(self) -> Opcode
         ensures { result ≡ op_opcode self }
     {

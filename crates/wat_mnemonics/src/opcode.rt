@@ -20,10 +20,10 @@ pub enum Opcode {
 }
 
 impl Opcode {
-    /// Appends the bytes of the opcode to `out` and returns their number. For `Absent` it appends
+    /// Appends the bytes of the opcode to `out` and returns their number. For `Absent`, appends
     /// nothing and returns None.
     ///
-    /// The error is Memory, if `out` can't grow; then nothing was appended. `Absent` never fails.
+    /// Returns Memory if `out` can't grow, and then leaves `out` unchanged. `Absent` never fails.
     pub fn write(self, out: &mut Vec<u8>) -> Result<Option<usize>>
         ensures { Appends (bytes self) out.old.items out.new.items result }
     {

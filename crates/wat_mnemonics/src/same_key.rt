@@ -1,4 +1,4 @@
-//! The search among words of which one begins as the text does.
+//! The search in a part of the table, after an entry with the text's key was found.
 
 ghost use Rattle.std.specs.Prelude.{◌≡◌, ◌≢◌, ◌<◌, ◌≤◌, ◌+◌, ◌-◌, ◌/◌, [], ℕ, IfSome, IfNone};
 ghost use Rattle.std.specs.Prelude.{slice_index, slice_index_or};
@@ -16,7 +16,7 @@ use crate::table::OPS;
 use std::cmp::Ordering;
 use wat_tokens::Parser;
 
-/// An entry of the table.
+/// Returns the entry of the table at an index.
 fn op_at(place: usize) -> Op
     requires { place < 623 }
     ensures { result ≡ slice_index_or all_ops place first }
@@ -24,7 +24,7 @@ fn op_at(place: usize) -> Op
     OPS[place]
 }
 
-/// How the word of an entry and a text with the same key compare.
+/// Compares the word of an entry with a text that has the same key.
 #[inline(always)]
 fn compared_whole(place: usize, text: &str) -> Ordering
     requires place { place < 623 }
@@ -47,7 +47,7 @@ fn compared_whole(place: usize, text: &str) -> Ordering
     word.cmp(text)
 }
 
-/// How the word of an entry and a text compare: by their keys where these differ.
+/// Compares the word of an entry with a text. If their keys differ, compares only the keys.
 fn compared(place: usize, key: u64, text: &str) -> Ordering
     requires place { place < 623 }
     requires key { key ≡ key_of text.now }
@@ -64,8 +64,8 @@ fn compared(place: usize, key: u64, text: &str) -> Ordering
     }
 }
 
-/// The instruction with this word, which is in a stretch of the table if it is in the table at all;
-/// None if there is none.
+/// Returns the instruction with the mnemonic `text`, or None if no instruction has this mnemonic.
+/// Searches only a stretch of the table: no entry outside the stretch has the mnemonic.
 fn find_between(
     parser: &mut Parser<'_>,
     mut base: usize,
@@ -97,7 +97,7 @@ fn find_between(
     None
 }
 
-/// The same for a stretch whose middle entry has the key of the text.
+/// Does the same as `find_between`, for a stretch whose middle entry has the key of the text.
 pub(crate) fn find_whole(
     parser: &mut Parser<'_>,
     base: usize,

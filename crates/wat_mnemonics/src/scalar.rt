@@ -186,7 +186,7 @@ impl ScalarOp {
     }
 }
 
-/// The word of each, in the order of the variants.
+/// The mnemonic of each variant, in the order of the variants.
 static WORDS: [&str; 157] = [
     "unreachable",
     "nop",
@@ -347,7 +347,7 @@ static WORDS: [&str; 157] = [
     "i64.mul_wide_u",
 ];
 
-/// The opcode of each, in the order of the variants.
+/// The opcode of each variant, in the order of the variants.
 static OPCODES: [Opcode; 157] = [
     Opcode::Single(0x00), // unreachable
     Opcode::Single(0x01), // nop

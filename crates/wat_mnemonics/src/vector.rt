@@ -247,7 +247,7 @@ impl VectorOp {
     }
 }
 
-/// The word of each, in the order of the variants.
+/// The mnemonic of each variant, in the order of the variants.
 static WORDS: [&str; 218] = [
     "i8x16.swizzle",
     "i8x16.splat",
@@ -469,7 +469,7 @@ static WORDS: [&str; 218] = [
     "i32x4.relaxed_dot_i8x16_i7x16_add_s",
 ];
 
-/// The opcode of each, in the order of the variants.
+/// The opcode of each variant, in the order of the variants.
 static OPCODES: [Opcode; 218] = [
     Opcode::Vector(14), // i8x16.swizzle
     Opcode::Vector(15), // i8x16.splat

@@ -1,4 +1,4 @@
--- Lanes seen as they are.
+-- Lanes under the identity view.
 use Rattle.std.proofs.lemmas.List.{map-append}
 use Rattle.std.proofs.Common.{◌≡◌, List, [], ◌∷◌, ◌++◌, map, length, get_or, arith, refl, ap, ◌∙◌}
 use Rattle.wat_tokens.specs.declared.floats.F32.{F32}

@@ -19,7 +19,7 @@ pub of_16 : (xs : List ℤ) → flat_map (to_le_bytes w8) (map (cast_unsigned w8
 of_16 [] = refl
 of_16 (x ∷ xs) = ap (λ (u : List ℕ). low_byte x ∷ u) (of_16 xs)
 
--- the bytes of eight numbers are those of the first four, and then those of the others
+-- the bytes of eight numbers are the bytes of the first four, and then the bytes of the last four
 pub halves : (f : ℕ → List ℕ) (xs us vs ws : List ℕ) → length xs ≡ 8
     → us ≡ flat_map f (get_or xs 0 0 ∷ (get_or xs 1 0 ∷ (get_or xs 2 0 ∷ (get_or xs 3 0 ∷ []))))
     → vs ≡ flat_map f (get_or xs 4 0 ∷ (get_or xs 5 0 ∷ (get_or xs 6 0 ∷ (get_or xs 7 0 ∷ []))))
@@ -30,7 +30,7 @@ halves f xs us vs ws l first second whole =
     let items : first4 ++ last4 ≡ xs = eight_items xs 0 0 0 0 0 0 0 0 l in
     rw (whole, first, second) (sym (flat_map-append f first4 last4) ∙ ap (flat_map f) items)
 
--- ---- what `map` gives, where each call gives f of its item
+-- ---- the result of `map`, if each call returns f of its item
 
 module _ {F A : Type 0} (g : Mut F (A × Unit {0}) ℕ) (f : A → ℕ) (gives : (p q : F) (x : A) (y : ℕ) → Called g p (x, tt) y q → y ≡ f x) where
   by_items : (xs : List A) (ys : List ℕ) → length xs ≡ length ys → ((i : ℕ) (d : A) (e : ℕ) → i < length ys → get_or ys i e ≡ f (get_or xs i d)) → ys ≡ map f xs
@@ -45,7 +45,7 @@ module _ {F A : Type 0} (g : Mut F (A × Unit {0}) ℕ) (f : A → ℕ) (gives :
   pub mapped : (p : F) (xs : List A) (ys : List ℕ) (n : ℕ) → length xs ≡ n → IsMapOf g p xs ys n → ys ≡ map f xs
   mapped p xs ys n l m = by_items xs ys (l ∙ sym m.long) (λ i d e lt. (let c = m.at i d e (omega (arith, lt, m.long)) in gives c.0 c.1 (get_or xs i d) (get_or ys i e) c.2))
 
--- ---- equal bytes are those of equal numbers
+-- ---- equal bytes come from equal numbers
 
 fronts : (a b c d : List ℕ) → length a ≡ length b → a ++ c ≡ b ++ d → (a ≡ b) × (c ≡ d)
 fronts [] [] c d l e = (refl, e)
@@ -58,7 +58,7 @@ fronts (x ∷ a) (y ∷ b) c d l e =
     let same : a ≡ b = p.0 in
     (cc, p.1)
 
--- ---- the bytes of a number tell its bits
+-- ---- the bytes of a number determine its bits
 
 no_shift : (n : ℕ) → n / 256 ^ 0 ≡ n
 no_shift n = omega arith
@@ -74,14 +74,14 @@ power_above : (k : ℕ) → 0 < 256 ^ k
 power_above zero = omega arith
 power_above (suc k) = omega (arith, power_above k)
 
--- the lowest byte of what is left behind i bytes, and the k bytes above it
+-- byte i of a number, and the k bytes above byte i
 digits : (n i k : ℕ) → n / 256 ^ i % 256 ^ suc k ≡ (n / 256 ^ suc i % 256 ^ k) * 256 + byte_at i n
 digits n i k =
     ap (λ (p : ℕ). n / 256 ^ i % p) (omega arith) ∙ mod-mul (n / 256 ^ i) {m = 256 ^ k} {c = 256} (power_above k) (lit< tt)
     ∙ ap (λ (q : ℕ). (q % 256 ^ k) * 256 + n / 256 ^ i % 256) (shifts n i)
     ∙ ap (λ (b : ℕ). (n / 256 ^ suc i % 256 ^ k) * 256 + b) (sym (byte_is i n))
 
--- k bytes from byte i upward tell what is in them
+-- k bytes from byte i upward determine that part of the number
 bytes_tell : (k i n m : ℕ) → bytes_low_first i k n ≡ bytes_low_first i k m → n / 256 ^ i % 256 ^ k ≡ m / 256 ^ i % 256 ^ k
 bytes_tell zero i n m e = omega arith
 bytes_tell (suc k) i n m e =

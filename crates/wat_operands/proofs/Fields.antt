@@ -1,4 +1,4 @@
--- What is after the prefix of a word.
+-- The text after the prefix of a word.
 use Rattle.std.proofs.Common.{◌≡◌, ◌≢◌, ℕ, ◌==◌, true, List, [], ◌∷◌, ◌++◌, drop, Option, Some, None, option_map, MatchOption, refl, ap, sym, ◌∙◌, Bor}
 use Rattle.std.specs.Cmp.{unsigned_Decides}
 use Rattle.std.specs.Str.Pattern.{LacksTextAt, FindsTextPrefix, StripsPrefix}
@@ -11,7 +11,7 @@ some_text u = Some u
 same : (b : ℕ) → (b == b) ≡ true
 same b = (unsigned_Decides b b).1 refl
 
--- after a prefix is what was put there
+-- past_front removes a prefix that was added
 past_own_front : (front rest : List ℕ) → past_front front (front ++ rest) ≡ Some rest
 unfolding past_front
 past_own_front [] rest = refl
@@ -28,7 +28,7 @@ past_no_front (b ∷ front) (c ∷ text) lacks =
     rw t (past_no_front front text (λ rest f. lacks rest (ap (λ (u : List ℕ). c ∷ u) f ∙ ap (λ (u : ℕ). u ∷ (front ++ rest)) (sym e))))))
     (λ t. rw t refl)
 
--- what `strip_prefix` answers
+-- the result of `strip_prefix`
 pub past_front_is : (front text : List ℕ) (r : Option (Bor (List ℕ))) → MatchOption r (LacksTextAt front text 0) (λ x. StripsPrefix (FindsTextPrefix front) text x.now) → option_map (λ x. x.now) r ≡ past_front front text
 past_front_is front text None lacks = sym (past_no_front front text lacks)
 past_front_is front text (Some x) s =

@@ -1,4 +1,4 @@
--- Texts as tokens, and the operands that they spell: what is read of them.
+-- Sample texts as tokens, and the operands that are read from them.
 use Rattle.std.proofs.Common.{refl}
 use Rattle.wat_tokens.specs.ManySpells.{many_at, many_reads}
 use Rattle.wat_tokens.specs.NameAnnotation.{name_annotation}

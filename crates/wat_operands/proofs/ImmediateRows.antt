@@ -1,4 +1,4 @@
--- Texts as tokens, and the operands that they spell: what is read of them.
+-- Sample texts as tokens, and the operands that are read from them.
 use Rattle.std.proofs.Common.{◌≡◌, true, false, List, [], ◌∷◌, ◌++◌, Some, None, refl}
 use Rattle.std.specs.Prelude.{codes}
 use Rattle.wat_tokens.specs.Index.{name}

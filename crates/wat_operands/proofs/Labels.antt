@@ -1,4 +1,4 @@
--- How the labels of a table of branches are read.
+-- The parse of the labels of a `br_table`.
 use Rattle.std.proofs.Common.{◌≡◌, true, false, List, [], ◌∷◌, ◌++◌, Some, None, refl, ap, sym, ◌∙◌}
 use Rattle.wat_tokens.specs.Token.{Tok}
 use Rattle.wat_tokens.specs.Production.{Read, Front, bind, some_of}
@@ -13,11 +13,11 @@ use Rattle.wat_operands.specs.Branch.{BrTableTy, br_table_of, bare_br_table, spl
 use Rattle.wat_operands.specs.Laws.Branch.{split_is}
 use Rattle.wat_operands.specs.BranchTable.{br_table}
 
--- what is read behind the first index
+-- the indices that are read after the first index
 abbrev others : List Tok → Read (List Idx)
 others t = many_reads begins_index index t
 
--- the labels and the default, by the first index and what is read behind it
+-- the labels and the default, by the first index and the indices read after it
 abbrev with_first : Idx → Read (List Idx) → Read BrTableTy
 with_first i x = bind (bind x (λ is r. some_of ((i, is), r))) (λ a r. some_of (split_list a, r))
 
@@ -50,7 +50,7 @@ none_read i None m = refl
 pub others_fail : (t t1 : List Tok) (i : Idx) → index.reads t ≡ Some (i, t1) → after_front (i ∷ []) (others t1) ≡ None → br_table.reads t ≡ None
 others_fail t t1 i e m = after_first t t1 i e ∙ none_read i (others t1) m
 
--- where a second index begins, there is a label
+-- if a second index begins, the list of labels isn't empty
 label_there : (i : Idx) (is : List Idx) (r t1 : List Tok) → begins_index t1 ≡ true → Front (many_spells begins_index index) t1 (is, r) → no_items (split i is).labels ≡ false
 label_there i [] r t1 k s =
     let same : t1 ≡ r = s.1 ∙ ap (λ (c : List Tok). c ++ r) s.2.0 in

@@ -1,4 +1,4 @@
--- The view of a block type, with the names known.
+-- The view of a block type as a type with names.
 use Rattle.std.specs.Prelude.{◌≡◌, Option, Some, None, option_map, refl}
 use Rattle.std.proofs.Common.{ap}
 use Rattle.wat_tokens.specs.Index.{index_view}
@@ -16,6 +16,6 @@ inline_with_names : (o : Option FunctionTypeNoNames) → option_view function_vi
 inline_with_names (Some t) = refl
 inline_with_names None = refl
 
--- a use without names is seen as the use with names that it is turned into
+-- a type use without names has the same view as its conversion to a type use with names
 pub view_with_names : (u : TypeUse FunctionTypeNoNames) → signature_view (with_names u) ≡ use_view unnamed_view u
 view_with_names u = ap (λ (o : Option FuncTy). use_of (option_view index_view u.index) o) (inline_with_names u.inline)

@@ -1,4 +1,4 @@
--- Keywords that hold a number, and what an alignment spells.
+-- Keywords that contain a number, and which tokens spell an alignment.
 use Rattle.std.specs.Prelude.{ℕ, ◌==◌, if◌then◌else◌, List, [], ◌∷◌, codes, Option, None, Some}
 use Rattle.std.specs.Prelude.{refl}
 use Rattle.std.specs.Int.{is_power_of_two}

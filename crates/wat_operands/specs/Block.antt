@@ -1,4 +1,4 @@
--- Types of blocks.
+-- Block types.
 use Rattle.std.specs.Prelude.{◌≡◌, Bool}
 use Rattle.wat_tokens.specs.Production.{Production}
 use Rattle.wat_tokens.specs.Parts.{seq, made}
@@ -16,7 +16,7 @@ use Rattle.wat_operands.specs.declared.block.BlockType.{BlockType}
 abbrev pub signature_view : TypeUse FunctionType → UseTy FuncTy
 signature_view u = use_view function_view u
 
--- no inline type with a parameter or a result
+-- has no inline type with a parameter or a result
 abbrev pub bare_signature : UseTy FuncTy → Bool
 bare_signature u = bare_use bare_function u
 
@@ -26,7 +26,7 @@ signature = type_use begins_func function_type_no_names
 
 -- ---- blocks
 
--- what a block is, and what names it
+-- the type of a block, with its label
 pub record BlockTy : Type 0 where
   pub label : Label
   pub ty : UseTy FuncTy
@@ -37,7 +37,7 @@ block_of l t = record { label = l; ty = t }
 abbrev pub block_view : BlockType → BlockTy
 block_view b = block_of (label_view b.label b.label_name) (signature_view b.ty)
 
--- no inline type with a parameter or a result
+-- has no inline type with a parameter or a result
 abbrev pub bare_block : BlockTy → Bool
 bare_block b = bare_signature b.ty
 

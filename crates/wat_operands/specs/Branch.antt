@@ -1,4 +1,4 @@
--- The labels of a `br_table`, and how they are split into labels and default.
+-- The indices of a `br_table`, and their split into labels and default.
 use Rattle.std.specs.Prelude.{◌≡◌, Bool, List, [], ◌∷◌, ◌++◌, map}
 use Rattle.std.proofs.Common.{lit≤}
 use Rattle.wat_tokens.specs.Token.{Tok}
@@ -10,7 +10,7 @@ use Rattle.wat_tokens.specs.Views.{no_items}
 use Rattle.wat_tokens.specs.declared.index.Index.{Index}
 use Rattle.wat_operands.specs.declared.branch.BrTableIndicesOf.{BrTableIndicesOf}
 
--- the labels and the default, without their places
+-- the labels and the default, without positions
 pub record BrTableTy : Type 0 where
   pub labels : List Idx
   pub default : Idx
@@ -21,7 +21,7 @@ br_table_of ls d = record { labels = ls; default = d }
 abbrev pub br_table_view : BrTableIndicesOf Index → BrTableTy
 br_table_view b = br_table_of (map index_view b.labels.items) (index_view b.default)
 
--- no labels
+-- has no labels
 abbrev pub bare_br_table : BrTableTy → Bool
 bare_br_table b = no_items b.labels
 
@@ -29,12 +29,12 @@ bare_br_table b = no_items b.labels
 abbrev pub indices : Production (Idx × List Idx)
 indices = seq index (many begins_index index (lit≤ tt))
 
--- of one or more indices the last is the default, and the others are the labels
+-- one or more indices: the last is the default, and the others are the labels
 abbrev pub BrTableSpells : BrTableTy → List Tok → List Tok → Type 0
 BrTableSpells b c r =
     (i : Idx) × (is : List Idx) × indices.spells (i, is) c r × (i ∷ is ≡ b.labels ++ b.default ∷ [])
 
--- ---- the same, as a production
+-- ---- as a production
 
 -- the labels and the default, by the first index and the others
 abbrev pub split : Idx → List Idx → BrTableTy

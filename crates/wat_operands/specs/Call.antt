@@ -9,7 +9,7 @@ use Rattle.wat_operands.specs.Block.{signature_view, bare_signature, signature}
 use Rattle.wat_operands.specs.Tables.{index_or_0}
 use Rattle.wat_operands.specs.declared.call.CallIndirect.{CallIndirect}
 
--- an indirect call, without places
+-- an indirect call, without positions
 pub record CallTy : Type 0 where
   pub table : Idx
   pub ty : UseTy FuncTy
@@ -20,7 +20,7 @@ call_of i t = record { table = i; ty = t }
 abbrev pub call_view : CallIndirect → CallTy
 call_view c = call_of (index_view c.table) (signature_view c.ty)
 
--- no inline type with a parameter or a result
+-- has no inline type with a parameter or a result
 abbrev pub bare_call : CallTy → Bool
 bare_call c = bare_signature c.ty
 

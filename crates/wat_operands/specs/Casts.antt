@@ -13,7 +13,7 @@ use Rattle.wat_operands.specs.declared.casts.RefCast.{RefCast}
 use Rattle.wat_operands.specs.declared.casts.RefCastDescEq.{RefCastDescEq}
 use Rattle.wat_operands.specs.declared.casts.RefTest.{RefTest}
 
--- ---- tests and casts: the type alone
+-- ---- tests and casts: only the type
 
 abbrev pub test_view : RefTest → RefTy
 test_view c = ref_view c.type_
@@ -26,7 +26,7 @@ cast_desc_eq_view c = ref_view c.type_
 
 -- ---- branches
 
--- where a branch goes, and between which types it casts
+-- the label of a branch, and the types that it casts from and to
 pub record BranchTy : Type 0 where
   pub label : Idx
   pub from_type : RefTy
@@ -35,7 +35,7 @@ pub record BranchTy : Type 0 where
 abbrev pub branch_of : Idx → RefTy → RefTy → BranchTy
 branch_of l s t = record { label = l; from_type = s; to_type = t }
 
--- the branch to a label, from a type to another
+-- the branch to a label, from one type to another type
 abbrev pub branch_between : Index → RefType → RefType → BranchTy
 branch_between l s t = branch_of (index_view l) (ref_view s) (ref_view t)
 

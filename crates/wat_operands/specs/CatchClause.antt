@@ -9,9 +9,9 @@ use Rattle.wat_operands.specs.declared.catches.CatchKind.{CatchKind}
 use Rattle.wat_operands.specs.declared.catches.CatchKind.TheVariants.{Catch, CatchRef, CatchAll}
 use Rattle.wat_operands.specs.declared.catches.CatchKind.TheVariants.{CatchAllRef}
 
--- ---- what contracts see
+-- ---- views
 
--- a clause of a try_table, without places
+-- a clause of a `try_table`, without positions
 pub record CatchTy : Type 0 where
   pub kind : CatchKind Idx
   pub label : Idx

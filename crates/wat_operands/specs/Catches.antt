@@ -1,4 +1,4 @@
--- What a try_table catches.
+-- The catch clauses of a `try_table`.
 use Rattle.std.specs.Prelude.{◌≡◌, Bool, ◌||◌, List, codes, Option, Some, None, map}
 use Rattle.std.specs.Borrow.{LendsIf, MutBor, Fml, RattleType}
 use Rattle.wat_tokens.specs.Token.{Tok}
@@ -17,7 +17,7 @@ use Rattle.wat_operands.specs.declared.catches.TryTableCatch.{TryTableCatch}
 use Rattle.wat_operands.specs.CatchClause.{CatchTy, catch_of, catch_clause}
 use Rattle.wat_operands.specs.Laws.Catches.{catch_clause_consumes}
 
--- ---- the tag of what is caught
+-- ---- the tag of a clause
 
 abbrev pub caught_tag : {I : Type 0} → CatchKind I → Option I
 caught_tag (Catch x) = Some x
@@ -25,20 +25,20 @@ caught_tag (CatchRef x) = Some x
 caught_tag CatchAll = None
 caught_tag CatchAllRef = None
 
--- the same with another tag, where it has one
+-- the same kind with another tag; a kind without a tag doesn't change
 abbrev pub with_tag : {I : Type 0} → CatchKind I → I → CatchKind I
 with_tag (Catch x) w = Catch w
 with_tag (CatchRef x) w = CatchRef w
 with_tag CatchAll w = CatchAll
 with_tag CatchAllRef w = CatchAllRef
 
--- what is written through the result becomes the tag, and nothing else changes
+-- a write through the result changes the tag, and nothing else
 abbrev pub LendsTag : (I : RattleType) → MutBor (CatchKind I.Denot) → Option (MutBor I.Denot) → Fml
 LendsTag I s r = LendsIf (kinds.the_row I) I s r (with_tag s.now) s.now
 
--- ---- what contracts see
+-- ---- views
 
--- its tag seen by view
+-- a kind with the given view of its tag
 abbrev pub catch_kind_view : {I A : Type 0} → (I → A) → CatchKind I → CatchKind A
 catch_kind_view view (Catch x) = Catch (view x)
 catch_kind_view view (CatchRef x) = CatchRef (view x)
@@ -48,7 +48,7 @@ catch_kind_view view CatchAllRef = CatchAllRef
 abbrev pub catch_view : TryTableCatch → CatchTy
 catch_view c = catch_of (catch_kind_view index_view c.kind) (index_view c.label)
 
--- a try_table, without places
+-- a `try_table`, without positions
 pub record TryTy : Type 0 where
   pub block : BlockTy
   pub catches : List CatchTy
@@ -67,7 +67,7 @@ begins_catch t =
     (begins_group (codes "catch") t || begins_group (codes "catch_ref") t)
     || (begins_group (codes "catch_all") t || begins_group (codes "catch_all_ref") t)
 
--- BlockType, and then a clause wherever a group begins with one of the four words
+-- BlockType, and then clauses as long as a group begins with one of the four words
 unfoldable pub try_table : Production TryTy
 try_table =
     made (λ v. try_of v.0 v.1) (seq block_type

@@ -1,4 +1,4 @@
--- Texts as tokens, and the operands that they spell.
+-- Sample texts as tokens, and the operands that they spell.
 use Rattle.std.specs.Prelude.{[], ◌∷◌, ◌++◌, codes, Some, None}
 use Rattle.wat_tokens.specs.Token.{Keyword, Integer}
 use Rattle.wat_tokens.specs.Index.{number}
@@ -13,7 +13,7 @@ use Rattle.wat_operands.specs.Handler.{on_label, on_switch}
 use Rattle.wat_operands.specs.Select.{select_types}
 use Rattle.wat_operands.specs.declared.catches.CatchKind.TheVariants.{Catch, CatchAllRef}
 
--- `(catch 0 1) (catch_all_ref 2)`: the tag 0 with the label 1, and everything with the label 2
+-- `(catch 0 1) (catch_all_ref 2)`: tag 0 with label 1, and every exception with label 2
 abbrev pub Catches : Type 0
 Catches =
     Spelled try_table (in_parens (Keyword (codes "catch") ∷ Integer (codes "0")

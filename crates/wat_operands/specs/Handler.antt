@@ -6,12 +6,12 @@ use Rattle.wat_tokens.specs.Parts.{seq, made, where_else, word}
 use Rattle.wat_tokens.specs.Groups.{group}
 use Rattle.wat_tokens.specs.Index.{Idx, index}
 
--- a handler, without places: its tag, and the label where it has one
+-- a handler, without positions: its tag, and its label if it has a label
 pub data HandleTy : Type 0 where
   on_label : Idx → Idx → HandleTy
   on_switch : Idx → HandleTy
 
--- `switch`, which is no label, or the index of a label
+-- `switch` (no label), or the index of a label
 unfoldable pub aim : Production (Option Idx)
 aim = where_else (begins_word (codes "switch")) (made (λ _. None) (word (codes "switch")))
     (made Some index)

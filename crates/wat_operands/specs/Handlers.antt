@@ -1,4 +1,4 @@
--- Tables of handlers.
+-- Handler tables.
 use Rattle.std.specs.Prelude.{Bool, List, codes, map}
 use Rattle.wat_tokens.specs.Token.{Tok}
 use Rattle.wat_tokens.specs.Tests.{begins_group}
@@ -27,18 +27,18 @@ handle_view (code.OnSwitch tag) = on_switch (index_view tag)
 abbrev pub begins_handler : List Tok → Bool
 begins_handler t = begins_group (codes "on") t
 
--- ---- tables of them
+-- ---- handler tables
 
 abbrev pub resume_table_view : ResumeTableOf Index → List HandleTy
 resume_table_view t = map handle_view t.handlers.items
 
--- a handler wherever a group begins with `on`
+-- handlers as long as a group begins with `on`
 unfoldable pub resume_table : Production (List HandleTy)
 resume_table = many begins_handler handler handler_consumes
 
--- ---- the operands that have one
+-- ---- operands with a handler table
 
--- a type and a table, without places
+-- a type and a handler table, without positions
 pub record ResumeTy : Type 0 where
   pub type_index : Idx
   pub table : List HandleTy
@@ -52,7 +52,7 @@ resume_view r = resume_of (index_view r.type_index) (resume_table_view r.table)
 abbrev pub resume_throw_ref_view : ResumeThrowRefOf Index → ResumeTy
 resume_throw_ref_view r = resume_of (index_view r.type_index) (resume_table_view r.table)
 
--- no handler
+-- has no handler
 abbrev pub bare_resume : ResumeTy → Bool
 bare_resume r = no_items r.table
 
@@ -60,7 +60,7 @@ bare_resume r = no_items r.table
 unfoldable pub resume : Production ResumeTy
 resume = made (λ v. resume_of v.0 v.1) (seq index resume_table)
 
--- a type, a tag and a table, without places
+-- a type, a tag and a handler table, without positions
 pub record ThrowTy : Type 0 where
   pub type_index : Idx
   pub tag_index : Idx
@@ -73,7 +73,7 @@ abbrev pub resume_throw_view : ResumeThrowOf Index → ThrowTy
 resume_throw_view r =
     throw_of (index_view r.type_index) (index_view r.tag_index) (resume_table_view r.table)
 
--- no handler
+-- has no handler
 abbrev pub bare_throw : ThrowTy → Bool
 bare_throw r = no_items r.table
 

@@ -1,4 +1,4 @@
--- Texts as tokens, and the operands that they spell.
+-- Sample texts as tokens, and the operands that they spell.
 use Rattle.std.specs.Prelude.{◌≡◌, ℤ, true, false, List, [], ◌∷◌, ◌++◌, codes, Some, None}
 use Rattle.wat_tokens.specs.Token.{Keyword, Id, Integer}
 use Rattle.wat_tokens.specs.Index.{number, name}
@@ -21,7 +21,8 @@ Accesses =
     × Spelled (mem_arg 4) (Id (codes "m") ∷ Keyword (codes "offset=0x10") ∷ [])
     (record { target = memory (name (codes "m")); offset = 16; align = 4; ordering = None })
 
--- with the default alignment 4, `seqcst` of a read-modify-write instruction and `acqrel` of another
+-- with the default alignment 4, `seqcst` of a read-modify-write instruction and `acqrel` of an
+-- instruction that isn't read-modify-write
 abbrev pub AtomicAccesses : Type 0
 AtomicAccesses =
     Spelled (atomic_mem_arg 4 true) (Keyword (codes "seqcst") ∷ [])
@@ -44,13 +45,13 @@ LaneAccesses =
       lane_of 1,
     )) × Spelled lane_arg (Integer (codes "255") ∷ []) (lane_of 255)
 
--- `1` and `2 1`: where one index is written, it is the segment's, of table 0
+-- `1` and `2 1`: a single index is the segment, and the table is 0
 abbrev pub TableInits : Type 0
 TableInits =
     Spelled init (Integer (codes "1") ∷ []) (number 0, number 1)
     × Spelled init (Integer (codes "2") ∷ Integer (codes "1") ∷ []) (number 2, number 1)
 
--- no tokens, and `1 2`: the destination, and the source
+-- no tokens, and `1 2`: destination 1 and source 2
 abbrev pub TableCopies : Type 0
 TableCopies =
     Spelled copy [] (number 0, number 0)

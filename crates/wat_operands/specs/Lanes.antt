@@ -18,7 +18,7 @@ use Rattle.wat_operands.specs.declared.memory.MemArg.{MemArg}
 abbrev pub lane_of : ℕ → LaneArg
 lane_of n = record { lane = n }
 
--- the lane that the token is: an integer without a sign, 0 to 255
+-- the lane that the token spells: an integer without a sign, 0 to 255
 abbrev pub lane_in : Tok → Option ℕ
 lane_in (Integer text) = if is_none (sign_of text) then unsigned_value 8 text else None
 lane_in _ = None
@@ -29,7 +29,7 @@ lane_arg = made lane_of (one lane_in (refl, refl))
 
 -- ---- accesses to one lane
 
--- an access and its lane, without the place of the index
+-- an access and its lane, without the position of the index
 pub record LaneAccessTy : Type 0 where
   pub memarg : MemArgTy
   pub lane : LaneArg
@@ -40,7 +40,7 @@ lane_access_view l = record { memarg = mem_arg_view l.memarg; lane = l.lane }
 abbrev pub access_of : MemArgTy × LaneArg → LaneAccessTy
 access_of v = record { memarg = v.0; lane = v.1 }
 
--- the lane alone: memory 0, offset 0, align a
+-- only the lane: memory 0, offset 0, align a
 abbrev pub lane_alone : ℕ → LaneArg → LaneAccessTy
 lane_alone a lane = access_of (mem_arg_of (memory (number 0), (0, a)), lane)
 
@@ -54,7 +54,7 @@ abbrev pub is_alone : List Tok → Bool
 is_alone (Integer text ∷ r) = not (goes_on r)
 is_alone _ = false
 
--- where is_alone: a LaneArg alone, memory 0, offset 0, align a; else MemArg, LaneArg
+-- only a LaneArg if is_alone holds: memory 0, offset 0, align a; else MemArg, LaneArg
 unfoldable pub lane_access : ℕ → Production LaneAccessTy
 lane_access a =
     where_else is_alone (made (lane_alone a) lane_arg) (made access_of (seq (mem_arg a) lane_arg))

@@ -1,4 +1,4 @@
--- What an access to a memory or an array is given: its target, an offset, an alignment and an
+-- The operand of an access to a memory or an array: a target, an offset, an alignment and an
 -- ordering.
 use Rattle.std.specs.Prelude.{ℕ, Bool, false, if◌then◌else◌, List, ◌∷◌, codes, Option, None}
 use Rattle.std.specs.Prelude.{is_some, option_map, unwrap_or}
@@ -22,7 +22,7 @@ use Rattle.wat_operands.specs.Laws.Memory.{align_to, align_from}
 
 -- ---- targets
 
--- a memory, or an array of a type, without the place of the index
+-- a memory, or an array of a type, without the position of the index
 pub data TargetTy : Type 0 where
   memory : Idx → TargetTy
   array : Idx → TargetTy
@@ -31,17 +31,17 @@ abbrev pub target_view : MemArgTarget → TargetTy
 target_view (code.Memory i) = memory (index_view i)
 target_view (code.Array i) = array (index_view i)
 
--- the second token is `type`, whatever the first is
+-- the second token is `type`, for any first token
 abbrev pub array_follows : List Tok → Bool
 array_follows t = second (begins_word (codes "type")) t
 
--- where the second token is `type`, ( type idx ), an array; else idx?, a memory, default 0
+-- ( type idx ), an array, if the second token is `type`; else idx?, a memory, default 0
 unfoldable pub target : Production TargetTy
 target = where_else array_follows (made array (group (codes "type") index)) (made memory index_or_0)
 
--- ---- words that hold a number
+-- ---- words that contain a number
 
--- a keyword that begins so
+-- a keyword that begins with the given text
 abbrev pub begins_with : List ℕ → List Tok → Bool
 begins_with front (Keyword w ∷ r) = is_some (past_front front w)
 begins_with front _ = false
@@ -58,9 +58,9 @@ align = restated align_tested AlignSpells align_to align_from
 unfoldable pub align_or : ℕ → Production ℕ
 align_or a = made (λ o. unwrap_or o a) (opt (begins_with (codes "align=")) align)
 
--- ---- the whole
+-- ---- the whole operand
 
--- an access, without the place of its index
+-- an access, without the position of its index
 pub record MemArgTy : Type 0 where
   pub align : ℕ
   pub offset : ℕ

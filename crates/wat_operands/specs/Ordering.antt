@@ -1,4 +1,4 @@
--- Orderings of atomic accesses, and what an ordering is in front of.
+-- Orderings of atomic accesses, and operands after an ordering.
 use Rattle.std.specs.Prelude.{Bool, ◌||◌, List, codes}
 use Rattle.wat_tokens.specs.Token.{Tok}
 use Rattle.wat_tokens.specs.Tests.{begins_word}
@@ -17,7 +17,7 @@ ordering =
 abbrev pub begins_ordering : List Tok → Bool
 begins_ordering t = begins_word (codes "seqcst") t || begins_word (codes "acqrel") t
 
--- the ordering, and what it is in front of, seen by view
+-- the ordering, and the given view of the operand after it
 abbrev pub ordered_view : {T A : Type 0} → (T → A) → Ordered T → Ordering × A
 ordered_view view o = (o.ordering, view o.inner)
 

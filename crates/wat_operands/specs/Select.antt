@@ -14,7 +14,7 @@ use Rattle.wat_operands.specs.declared.select.SelectTypes.{SelectTypes}
 use Rattle.wat_operands.specs.ResultGroup.{result_group}
 use Rattle.wat_operands.specs.Laws.Select.{result_group_consumes}
 
--- ---- what contracts see
+-- ---- views
 
 abbrev pub select_types_view : Option (Vec ValType Global) → Option (List ValTy)
 select_types_view ts = option_view (λ v. map val_view v.items) ts
@@ -22,21 +22,21 @@ select_types_view ts = option_view (λ v. map val_view v.items) ts
 abbrev pub select_view : SelectTypes → Option (List ValTy)
 select_view s = select_types_view s.tys
 
--- no type is written, in a group or without one
+-- has no type, with or without a group
 abbrev pub bare_select : Option (List ValTy) → Bool
 bare_select ts = bare_option no_items ts
 
--- both are there with the same types, or neither is
+-- both are present with the same types, or both are absent
 abbrev pub SameTypes : Option (Vec ValType Global) → Option (Vec ValType Global) → Type 0
 SameTypes a b = SameOption (λ v w. v.items ≡ w.items) a b
 
 -- ---- the grammar
 
--- one more group has to follow: the second token is `result`, whatever the first is
+-- one more group has to follow: the second token is `result`, for any first token
 abbrev pub result_follows : List Tok → Bool
 result_follows t = second (begins_word (codes "result")) t
 
--- None where no group has to follow; else groups, to where none has to: the types of all, one
--- behind the other
+-- None if no group has to follow; else groups as long as one more has to follow: the types of all
+-- groups, in order
 unfoldable pub select_types : Production (Option (List ValTy))
 select_types = opt result_follows (joined result_follows result_group result_group_consumes)

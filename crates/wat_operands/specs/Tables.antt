@@ -12,7 +12,7 @@ use Rattle.wat_operands.specs.declared.tables.TableArgOf.{TableArgOf}
 use Rattle.wat_operands.specs.declared.tables.TableCopyOf.{TableCopyOf}
 use Rattle.wat_operands.specs.declared.tables.TableInitOf.{TableInitOf}
 
--- ---- one index, or none
+-- ---- one index, or no index
 
 -- idx?, default 0
 unfoldable pub index_or_0 : Production Idx
@@ -40,12 +40,11 @@ table_init_view i = (index_view i.table, index_view i.elem)
 abbrev pub memory_init_view : MemoryInitOf Index → Idx × Idx
 memory_init_view i = (index_view i.mem, index_view i.«data»)
 
--- the target that is meant where none is written, and the segment
+-- target 0, and the segment
 abbrev pub into_0 : Idx → Idx × Idx
 into_0 segment = (number 0, segment)
 
--- where the second token is an Id or Integer: idx (target) idx (segment); else idx (segment),
--- target 0
+-- idx (target) idx (segment) if the second token is an Id or Integer; else idx (segment), target 0
 unfoldable pub init : Production (Idx × Idx)
 init = where_else (second begins_index) index_pair (made into_0 index)
 
@@ -58,6 +57,6 @@ table_copy_view c = (index_view c.dst, index_view c.src)
 abbrev pub memory_copy_view : MemoryCopyOf Index → Idx × Idx
 memory_copy_view c = (index_view c.dst, index_view c.src)
 
--- idx (destination) idx (source), or nothing: 0 and 0
+-- idx (destination) idx (source), or no tokens: 0 and 0
 unfoldable pub copy : Production (Idx × Idx)
 copy = made (λ o. unwrap_or o (number 0, number 0)) (opt begins_index index_pair)

@@ -1,4 +1,4 @@
--- Constants of 128 bits, and lanes that are shuffled.
+-- Constants of 128 bits, and the lanes of a shuffle.
 use Rattle.std.specs.Prelude.{ℕ, ◌%◌, ◌^◌, Bool, true, ◌&&◌, List, [], ◌∷◌, ◌++◌, codes, map}
 use Rattle.std.specs.Prelude.{flat_map, ⊤}
 use Rattle.std.specs.Int.{Width, w8, w16, w32, w64, cast_unsigned, to_le_bytes}
@@ -21,7 +21,7 @@ module _ {A : Type 0} where
   unfoldable pub two : Production A → Production (List A)
   two g = made (λ v. v.0 ∷ (v.1 ∷ [])) (seq g g)
 
-  -- as many values as g gives, and once more as many
+  -- g g, with the values of both in one list
   abbrev pub twice : Production (List A) → Production (List A)
   twice g = made (λ v. v.0 ++ v.1) (seq g g)
 
@@ -44,7 +44,7 @@ all_bare bare (v ∷ vs) = bare v && all_bare bare vs
 
 -- ---- constants
 
--- the number with the bits
+-- the number with the given bits
 abbrev pub f32_of : ℕ → F32
 f32_of n = record { bits = n }
 
@@ -62,14 +62,14 @@ abbrev pub shaped : {A : Type 0} → List ℕ → (List A → V128Const) → Pro
     → Production V128Const
 shaped w f g = made (λ v. f v.1) (seq (word w) g)
 
--- `f32x4` with 4 numbers or `f64x2` with 2: no tokens are read as one, so these two have no
--- spelling
+-- `f32x4` with 4 numbers or `f64x2` with 2: no tokens spell a floating-point number, so no tokens
+-- spell these constants
 unfoldable pub float_const : Production V128Const
 float_const =
     where_else (begins_word (codes "f32x4")) (shaped (codes "f32x4") f32x4_of (four none))
     (shaped (codes "f64x2") f64x2_of (two none))
 
--- `i32x4` with 4 i32, `i64x2` with 2 i64, or of floating-point numbers
+-- `i32x4` with 4 i32, `i64x2` with 2 i64, or a constant of floating-point numbers
 unfoldable pub wide_const : Production V128Const
 wide_const =
     where_else (begins_word (codes "i32x4")) (shaped (codes "i32x4") I32x4 (four (signed 32)))
@@ -86,7 +86,7 @@ v128_const =
 
 -- ---- bytes
 
--- the lanes as unsigned numbers: a negative one by two's complement, one of floating point by its
+-- the lanes as unsigned numbers: a negative lane by two's complement, a floating-point lane by its
 -- bits
 abbrev pub lane_numbers : V128Const → List ℕ
 lane_numbers (I8x16 lanes) = map (cast_unsigned w8) lanes
@@ -109,7 +109,7 @@ lane_width (F64x2 lanes) = w64
 abbrev pub bytes_of : V128Const → List ℕ
 bytes_of v = flat_map (to_le_bytes (lane_width v)) (lane_numbers v)
 
--- of how many bits a lane is
+-- the number of bits of a lane
 abbrev pub lane_size : V128Const → ℕ
 lane_size (I8x16 lanes) = 8
 lane_size (I16x8 lanes) = 16
@@ -122,7 +122,7 @@ lane_size (F64x2 lanes) = 64
 abbrev pub lane_bits : V128Const → List ℕ
 lane_bits v = map (λ n. n % 2 ^ lane_size v) (lane_numbers v)
 
--- as many lanes, of one kind
+-- the same number of lanes, of the same kind
 abbrev pub SameShape : V128Const → V128Const → Type 0
 SameShape (I8x16 xs) (I8x16 ys) = ⊤
 SameShape (I16x8 xs) (I16x8 ys) = ⊤

@@ -142,7 +142,7 @@ impl<'a> Parse<'a> for StructAccess<'a> {
     }
 }
 
-/// The continuation type of the argument, and that of the result.
+/// The continuation type of the argument, and the continuation type of the result.
 impl<'a> Parse<'a> for ContBind<'a> {
     ghost View = { Idx × Idx };
 
@@ -221,8 +221,8 @@ impl<'a> Parse<'a> for ArrayInit<'a> {
     }
 }
 
-/// An array type, and the length, an unsigned number of 32 bits. The error is Range, at the number,
-/// if it has a `-` or is too large.
+/// An array type, and the length, an unsigned number of 32 bits. Returns Range, at the number, if
+/// the number has a `-` or is too large.
 impl<'a> Parse<'a> for ArrayNewFixed<'a> {
     ghost View = { Idx × ℕ };
 

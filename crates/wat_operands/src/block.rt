@@ -14,15 +14,15 @@ use wat_types::{FunctionType, FunctionTypeNoNames, TypeUse, take_label};
 /// Specification, Text Format, Instructions, "Control Instructions").
 #[derive(Debug, Drop)]
 pub struct BlockType<'a> {
-    /// The label, if one is written.
+    /// The label, if the text has a label.
     pub label: Option<Id<'a>>,
-    /// The name in the label's `@name` annotation, if there is one.
+    /// The name in the label's `@name` annotation, if the text has such an annotation.
     pub label_name: Option<NameAnnotation<'a>>,
     /// The type of the block. Its parameters have neither identifiers nor names.
     pub ty: TypeUse<'a, FunctionType<'a>>,
 }
 
-/// Parses a type use of a [`FunctionTypeNoNames`], and returns it as one of a [`FunctionType`].
+/// Parses a type use of a [`FunctionTypeNoNames`], and returns a type use of a [`FunctionType`].
 #[tactic(auto, using(crate::proofs::ViewWithNames::view_with_names))]
 pub(crate) fn read_signature<'a>(parser: &mut Parser<'a>) -> Result<TypeUse<'a, FunctionType<'a>>>
     ensures reads { Reads (owning signature_view bare_signature) signature result parser.old
@@ -33,7 +33,7 @@ pub(crate) fn read_signature<'a>(parser: &mut Parser<'a>) -> Result<TypeUse<'a, 
 }
 
 impl<'a> BlockType<'a> {
-    /// Returns a copy. It can fail with Memory only if the inline type has a parameter or a result.
+    /// Returns a copy. Returns Memory only if the inline type has a parameter or a result.
     pub fn clone(&self) -> Result<BlockType<'a>>
         ensures copies { Copies SameBlock (owning block_view bare_block) result self.now }
     {

@@ -13,9 +13,9 @@ use wat_tokens::{Fault, Index, Parse, Parser, Result};
 /// Format, Instructions, "Control Instructions").
 #[derive(Debug, Drop)]
 pub struct BrTableIndicesOf<I> {
-    /// The labels of the numbers 0, 1, 2 ...
+    /// The labels for the operand values 0, 1, 2 ...
     pub labels: Vec<I>,
-    /// The label of every greater number.
+    /// The label for every greater operand value.
     pub default: I,
 }
 
@@ -23,7 +23,7 @@ pub struct BrTableIndicesOf<I> {
 pub type BrTableIndices<'a> = BrTableIndicesOf<Index<'a>>;
 
 impl<'a> BrTableIndices<'a> {
-    /// Returns a copy. It can fail with Memory only if `labels` isn't empty.
+    /// Returns a copy. Returns Memory only if `labels` isn't empty.
     pub fn clone(&self) -> Result<BrTableIndices<'a>>
         ensures copies { Copies (λ x y. (y.labels.items ≡ x.labels.items) × (y.default ≡ x.default))
             (owning br_table_view bare_br_table) result self.now }
@@ -48,7 +48,7 @@ fn take_last<'a>(indices: &mut Vec<Index<'a>>) -> Index<'a>
     index
 }
 
-/// One or more indices. The last is `default`, and the others are `labels`.
+/// One or more indices. The last index is `default`, and the others are `labels`.
 impl<'a> Parse<'a> for BrTableIndices<'a> {
     ghost View = { BrTableTy };
 

@@ -14,15 +14,15 @@ use wat_types::{FunctionType, TypeUse};
 /// Format, Instructions, "Control Instructions").
 #[derive(Debug, Drop)]
 pub struct CallIndirect<'a> {
-    /// The table that holds the function. If none is written, it is table 0, and its span is that
-    /// of the token before the operand.
+    /// The table that holds the function. If the text has no table index, this is table 0, with the
+    /// span of the token before the operand.
     pub table: Index<'a>,
     /// The type of the function. Its parameters have neither identifiers nor names.
     pub ty: TypeUse<'a, FunctionType<'a>>,
 }
 
 impl<'a> CallIndirect<'a> {
-    /// Returns a copy. It can fail with Memory only if the inline type has a parameter or a result.
+    /// Returns a copy. Returns Memory only if the inline type has a parameter or a result.
     pub fn clone(&self) -> Result<CallIndirect<'a>>
         ensures copies { Copies SameCall (owning call_view bare_call) result self.now }
     {

@@ -24,9 +24,9 @@ pub enum CatchKind<I> {
     Catch(I),
     /// `catch_ref`: exceptions with this tag, with a reference to the exception.
     CatchRef(I),
-    /// `catch_all`: every exception, without a reference to it.
+    /// `catch_all`: every exception, without a reference to the exception.
     CatchAll,
-    /// `catch_all_ref`: every exception, with a reference to it.
+    /// `catch_all_ref`: every exception, with a reference to the exception.
     CatchAllRef,
 }
 
@@ -69,7 +69,7 @@ pub struct TryTable<'a> {
     pub catches: Vec<TryTableCatch<'a>>,
 }
 
-/// Parses the keyword of a clause, and the tag if it has one.
+/// Parses the keyword of a clause, and the tag for `catch` and `catch_ref`.
 #[tactic(auto, unfolding(crate::specs::CatchClause::catch_kind))]
 fn read_catch_kind<'a>(parser: &mut Parser<'a>) -> Result<TryTableCatchKind<'a>>
     ensures reads { Reads (plain (catch_kind_view index_view)) catch_kind result parser.old
@@ -117,7 +117,7 @@ impl<'a> Part<'a, TryTableCatch<'a>> for Clause {
 }
 
 impl<'a> TryTable<'a> {
-    /// Returns a copy. It can fail with Memory, because the block type is in a box.
+    /// Returns a copy. Can return Memory, because the block type is in a box.
     pub fn clone(&self) -> Result<TryTable<'a>>
         ensures copies { Copies SameTry (owning try_view (λ _. false)) result self.now }
     {

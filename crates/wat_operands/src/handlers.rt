@@ -1,4 +1,4 @@
-//! Handler tables, and the operands that have one.
+//! Handler tables, and the operands that have a handler table.
 
 ghost use Rattle.std.specs.Prelude.{◌≡◌, List};
 ghost use Rattle.wat_operands.specs.Handlers.{handle_view, begins_handler, resume_table_view};
@@ -119,7 +119,7 @@ impl<'a> Part<'a, Handle<'a>> for Handler {
 }
 
 impl<'a> ResumeTable<'a> {
-    /// Returns a copy. It can fail with Memory only if there is a handler.
+    /// Returns a copy. Returns Memory only if the value has a handler.
     #[tactic(auto, using(std::proofs::lemmas::List::Elements::same_from_all_zip))]
     pub fn clone(&self) -> Result<ResumeTable<'a>>
         ensures copies { Copies (λ x y. y.handlers.items ≡ x.handlers.items)
@@ -151,7 +151,7 @@ impl<'a> Parse<'a> for ResumeTable<'a> {
 }
 
 impl<'a> Resume<'a> {
-    /// Returns a copy. It can fail with Memory only if there is a handler.
+    /// Returns a copy. Returns Memory only if the value has a handler.
     pub fn clone(&self) -> Result<Resume<'a>>
         ensures copies { Copies (λ x y. (y.type_index ≡ x.type_index) ×
             (y.table.handlers.items ≡ x.table.handlers.items)) (owning resume_view bare_resume)
@@ -181,7 +181,7 @@ impl<'a> Parse<'a> for Resume<'a> {
 }
 
 impl<'a> ResumeThrow<'a> {
-    /// Returns a copy. It can fail with Memory only if there is a handler.
+    /// Returns a copy. Returns Memory only if the value has a handler.
     pub fn clone(&self) -> Result<ResumeThrow<'a>>
         ensures copies { Copies (λ x y. (y.type_index ≡ x.type_index) × (y.tag_index ≡ x.tag_index)
             × (y.table.handlers.items ≡ x.table.handlers.items))
@@ -217,7 +217,7 @@ impl<'a> Parse<'a> for ResumeThrow<'a> {
 }
 
 impl<'a> ResumeThrowRef<'a> {
-    /// Returns a copy. It can fail with Memory only if there is a handler.
+    /// Returns a copy. Returns Memory only if the value has a handler.
     pub fn clone(&self) -> Result<ResumeThrowRef<'a>>
         ensures copies { Copies (λ x y. (y.type_index ≡ x.type_index) ×
             (y.table.handlers.items ≡ x.table.handlers.items))

@@ -32,8 +32,8 @@ pub struct LaneOf<M> {
 /// The operands of a load or store of one lane.
 pub type LoadOrStoreLane<'a> = LaneOf<MemArg<'a>>;
 
-/// An integer without a sign, 0 to 255. The error is at the integer: Unexpected if it has a sign,
-/// Range if it is too large.
+/// An integer without a sign, 0 to 255. Returns Unexpected, at the integer, if the integer has a
+/// sign, and Range, at the integer, if it is too large.
 impl<'a> Parse<'a> for LaneArg {
     ghost use Rattle.wat_operands.specs.declared.lanes.LaneArg.{LaneArg};
 
@@ -65,7 +65,7 @@ fn goes_on(cursor: Cursor<'_>) -> bool
     cursor.integer().is_some() || begins_with(cursor, "offset=") || begins_with(cursor, "align=")
 }
 
-/// Returns whether the next token is an integer that is a lane, and not a memory.
+/// Returns whether the next token is an integer, and that integer is a lane and not a memory.
 fn is_alone(cursor: Cursor<'_>) -> bool
     ensures { result ≡ is_alone (in_front cursor.entry) }
 {
@@ -77,13 +77,13 @@ fn is_alone(cursor: Cursor<'_>) -> bool
 
 impl<'a> LoadOrStoreLane<'a> {
     /// Parses the operands of a load or store of one lane (WebAssembly Core Specification, Text
-    /// Format, Instructions, "Memory Instructions"). `align` is the default alignment in bytes. It
-    /// never fails with Memory.
+    /// Format, Instructions, "Memory Instructions"). `align` is the default alignment in bytes.
+    /// Never returns Memory.
     ///
-    /// If the first token is an integer, and the second is neither an integer nor a keyword that
-    /// begins with `offset=` or `align=`, the operand is a lane alone: the memory and the offset
-    /// are 0. Otherwise it is a memory access, as of [`MemArg::read`], and then a lane. The errors
-    /// are those of the two parts.
+    /// The operand is only a lane if the first token is an integer, and the second is neither an
+    /// integer nor a keyword that begins with `offset=` or `align=`. Then the memory and the offset
+    /// are 0. Otherwise the operand is a memory access, as [`MemArg::read`] parses it, and then a
+    /// lane. The errors are those of the memory access and of the lane.
     #[tactic(auto, unfolding(crate::specs::Lanes::lane_access))]
     pub fn read(parser: &mut Parser<'a>, align: u64) -> Result<LoadOrStoreLane<'a>>
         ensures reads { Reads (plain lane_access_view) (lane_access align) result parser.old

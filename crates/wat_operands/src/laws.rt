@@ -1,12 +1,12 @@
-//! Sample token lists that spell operands: functions that do nothing, whose contracts state the
-//! facts.
+//! Sample token lists that spell operands, as contracts. The functions do nothing: only their
+//! contracts matter.
 
 ghost use Rattle.wat_operands.specs.ImmediateRows.{Accesses, AtomicAccesses, LaneAccesses};
 ghost use Rattle.wat_operands.specs.ImmediateRows.{TableInits, TableCopies, Vector, OrderedTable};
 ghost use Rattle.wat_operands.specs.GroupRows.{Catches, Handlers, Selects};
 
-/// Sample token lists that spell operands of indices and numbers. They test the definitions alone,
-/// and so find an error that a parser shares with its definition.
+/// Sample token lists that spell operands of indices and numbers. The facts use only the
+/// definitions, so they can reveal an error that a parser shares with its definition.
 pub fn immediate_rows()
     ensures accesses { Accesses }
     ensures atomic_accesses { AtomicAccesses }
@@ -17,8 +17,8 @@ pub fn immediate_rows()
     ensures ordered_table { OrderedTable }
 {}
 
-/// Sample token lists that spell operands of types or groups. They test the definitions alone, and
-/// so find an error that a parser shares with its definition.
+/// Sample token lists that spell operands of types or groups. The facts use only the definitions,
+/// so they can reveal an error that a parser shares with its definition.
 pub fn group_rows()
     ensures catches { Catches }
     ensures handlers { Handlers }

@@ -1,10 +1,9 @@
 //! Operands of instructions in the WebAssembly text format (WebAssembly Core Specification, Text
 //! Format, "Instructions").
 //!
-//! An operand is parsed from the tokens after the mnemonic, by [`wat_tokens::Parse`]. Memory
-//! accesses have functions of their own, which take the default alignment: [`MemArg::read`],
-//! [`MemArg::read_atomic`] and [`LoadOrStoreLane::read`]. Indices are kept as written: identifiers
-//! aren't resolved.
+//! [`wat_tokens::Parse`] parses an operand from the tokens after the mnemonic. Memory accesses have
+//! separate functions, which take the default alignment: [`MemArg::read`], [`MemArg::read_atomic`]
+//! and [`LoadOrStoreLane::read`]. Indices are kept as written: identifiers aren't resolved.
 #![tactic(auto)]
 
 pub mod aggregates;

@@ -38,18 +38,18 @@ pub enum MemArgOrdering {
 /// "Memory Instructions").
 #[derive(Clone, Debug, Drop)]
 pub struct MemArg<'a> {
-    /// The alignment in bytes as written, a power of two and not its exponent; the default if none
-    /// is written.
+    /// The alignment in bytes as written, a power of two and not its exponent. If the text has no
+    /// alignment, this is the default.
     pub align: u64,
-    /// The offset in bytes; 0 if none is written.
+    /// The offset in bytes; 0 if the text has no offset.
     pub offset: u64,
-    /// The target; memory 0 if none is written.
+    /// The target; memory 0 if the text has no target.
     pub target: MemArgTarget<'a>,
-    /// The memory ordering, if one is written.
+    /// The memory ordering, if the text has an ordering.
     pub ordering: Option<MemArgOrdering>,
 }
 
-/// Returns the text after the prefix `front`, or None if the text doesn't begin with it.
+/// Returns the text after the prefix `front`, or None if the text doesn't begin with `front`.
 fn past_front<'a>(text: &'a str, front: &str) -> Option<&'a str>
     ensures { option_map (λ x. x.now) result ≡ past_front front.now text.entry.now }
 {
@@ -66,8 +66,8 @@ pub(crate) fn begins_with(cursor: Cursor<'_>, start: &str) -> bool
     }
 }
 
-/// Returns the text as an unsigned number of 64 bits. The error is at `span`: Unexpected if the
-/// text isn't an integer, Range if it has a `-` or is too large.
+/// Returns the text as an unsigned number of 64 bits. Returns Unexpected, at `span`, if the text
+/// isn't an integer, and Range, at `span`, if the integer has a `-` or is too large.
 fn number(text: &str, span: Span) -> Result<u64>
     ensures { MatchResult result (λ n. unsigned_value 64 text.now ≡ Some n) (λ e.
         (unsigned_value 64 text.now ≡ None) × (e.fault ≢ Fault.Memory)) }
@@ -94,7 +94,7 @@ fn take_field(parser: &mut Parser<'_>, front: &str) -> Result<u64>
     }
 }
 
-/// Parses the offset if one is written; otherwise returns 0.
+/// Parses the offset if the next token is an offset. Otherwise returns 0.
 #[tactic(auto, unfolding(crate::specs::Memory::offset_or_0))]
 fn read_offset(parser: &mut Parser<'_>) -> Result<u64>
     ensures reads { Reads (plain (λ n. n)) offset_or_0 result parser.old parser.new }
@@ -120,7 +120,7 @@ fn take_align(parser: &mut Parser<'_>) -> Result<u64>
     }
 }
 
-/// Parses the alignment if one is written; otherwise returns the default.
+/// Parses the alignment if the next token is an alignment. Otherwise returns the default.
 #[tactic(auto, unfolding(crate::specs::Memory::align_or))]
 fn read_align(parser: &mut Parser<'_>, default: u64) -> Result<u64>
     ensures reads { Reads (plain (λ n. n)) (align_or default) result parser.old parser.new }
@@ -146,10 +146,10 @@ fn read_target<'a>(parser: &mut Parser<'a>) -> Result<MemArgTarget<'a>>
 impl<'a> MemArg<'a> {
     /// Parses the operand of a memory access: a target, an offset and an alignment, each optional
     /// (WebAssembly Core Specification, Text Format, Instructions, "Memory Instructions"). `align`
-    /// is the default alignment in bytes. It never fails with Memory.
+    /// is the default alignment in bytes. Never returns Memory.
     ///
-    /// - The target is an array, `( type idx )`, if the second token is `type`. Otherwise it is a
-    ///   memory: an index, or 0 if no index is written.
+    /// - If the second token is `type`, the target is an array, `( type idx )`. Otherwise the
+    ///   target is a memory: an index, or 0 if the next token isn't an index.
     /// - The offset is a keyword such as `offset=8`. The default is 0.
     /// - The alignment is a keyword such as `align=4`.
     ///
@@ -175,8 +175,8 @@ impl<'a> MemArg<'a> {
     /// memory ordering (WebAssembly Core Specification, Text Format, Instructions, "Memory
     /// Instructions", with the proposals on threads).
     ///
-    /// The ordering is returned as [`MemArgOrdering::Rmw`] if `rmw` is true, which stands for a
-    /// read-modify-write instruction; otherwise as [`MemArgOrdering::Op`].
+    /// `rmw` is true for a read-modify-write instruction. The ordering is returned as
+    /// [`MemArgOrdering::Rmw`] if `rmw` is true, and as [`MemArgOrdering::Op`] otherwise.
     #[tactic(auto, unfolding(crate::specs::Memory::atomic_mem_arg))]
     pub fn read_atomic(parser: &mut Parser<'a>, align: u64, rmw: bool) -> Result<MemArg<'a>>
         ensures reads { Reads (plain mem_arg_view) (atomic_mem_arg align rmw) result parser.old

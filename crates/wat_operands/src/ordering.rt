@@ -11,8 +11,8 @@ use wat_tokens::{Cursor, Parse, Parser, Peek, Result};
 pub enum Ordering {
     /// `acqrel`: acquire and release. A load acquires; a store releases.
     AcqRel,
-    /// `seqcst`: sequentially consistent. As `acqrel`, and all threads see all accesses with this
-    /// ordering in the same order.
+    /// `seqcst`: sequentially consistent. The same as `acqrel`, and all threads see all accesses
+    /// with this ordering in the same order.
     SeqCst,
 }
 

@@ -16,7 +16,7 @@ use wat_types::ValType;
 /// "Parametric Instructions").
 #[derive(Debug, Drop)]
 pub struct SelectTypes<'a> {
-    /// The types of all `( result .. )` groups, in order; None if there is no group.
+    /// The types of all `( result .. )` groups, in order; None if the text has no group.
     pub tys: Option<Vec<ValType<'a>>>,
 }
 
@@ -47,7 +47,7 @@ impl<'a> Group<'a, ValType<'a>> for ResultGroup {
 }
 
 impl<'a> SelectTypes<'a> {
-    /// Returns a copy. It can fail with Memory only if there is a type.
+    /// Returns a copy. Returns Memory only if `tys` has a type.
     pub fn clone(&self) -> Result<SelectTypes<'a>>
         ensures copies { Copies (λ x y. SameTypes x.tys y.tys) (owning select_view bare_select)
             result self.now }
@@ -63,8 +63,8 @@ impl<'a> SelectTypes<'a> {
     }
 }
 
-/// Groups `( result ValType* )`, as long as the second token is `result`, whatever the first is.
-/// `tys` is None if there is no group, and otherwise the types of all groups.
+/// Groups `( result ValType* )`, as long as the second token is `result`, for any first token.
+/// `tys` is None if no group follows, and otherwise the types of all groups.
 impl<'a> Parse<'a> for SelectTypes<'a> {
     ghost View = { Option (List ValTy) };
 

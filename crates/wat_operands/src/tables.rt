@@ -15,7 +15,7 @@ use wat_tokens::{Index, Parse, Parser, Result};
 /// Specification, Text Format, Instructions, "Table Instructions").
 #[derive(Clone, Debug, Drop)]
 pub struct TableArgOf<I> {
-    /// The table; 0 if none is written.
+    /// The table; 0 if the text has no table index.
     pub dst: I,
 }
 
@@ -26,7 +26,7 @@ pub type TableArg<'a> = TableArgOf<Index<'a>>;
 /// Specification, Text Format, Instructions, "Memory Instructions").
 #[derive(Clone, Debug, Drop)]
 pub struct MemoryArgOf<I> {
-    /// The memory; 0 if none is written.
+    /// The memory; 0 if the text has no memory index.
     pub mem: I,
 }
 
@@ -37,7 +37,7 @@ pub type MemoryArg<'a> = MemoryArgOf<Index<'a>>;
 /// Format, Instructions, "Table Instructions").
 #[derive(Clone, Debug, Drop)]
 pub struct TableInitOf<I> {
-    /// The table to write; 0 if none is written.
+    /// The table to write to; 0 if the text has no table index.
     pub table: I,
     /// The element segment to read.
     pub elem: I,
@@ -52,7 +52,7 @@ pub type TableInit<'a> = TableInitOf<Index<'a>>;
 pub struct MemoryInitOf<I> {
     /// The data segment to read.
     pub data: I,
-    /// The memory to write; 0 if none is written.
+    /// The memory to write to; 0 if the text has no memory index.
     pub mem: I,
 }
 
@@ -63,9 +63,9 @@ pub type MemoryInit<'a> = MemoryInitOf<Index<'a>>;
 /// Format, Instructions, "Table Instructions").
 #[derive(Clone, Debug, Drop)]
 pub struct TableCopyOf<I> {
-    /// The destination table; 0 if no tables are written.
+    /// The destination table; 0 if the text has no indices.
     pub dst: I,
-    /// The source table; 0 if no tables are written.
+    /// The source table; 0 if the text has no indices.
     pub src: I,
 }
 
@@ -76,23 +76,23 @@ pub type TableCopy<'a> = TableCopyOf<Index<'a>>;
 /// Format, Instructions, "Memory Instructions").
 #[derive(Clone, Debug, Drop)]
 pub struct MemoryCopyOf<I> {
-    /// The source memory; 0 if no memories are written.
+    /// The source memory; 0 if the text has no indices.
     pub src: I,
-    /// The destination memory; 0 if no memories are written.
+    /// The destination memory; 0 if the text has no indices.
     pub dst: I,
 }
 
 /// The operands of `memory.copy`.
 pub type MemoryCopy<'a> = MemoryCopyOf<Index<'a>>;
 
-/// Returns the default index 0, with the span of the token that was taken last.
+/// Returns the default index 0, with the span of the last token that was taken.
 pub(crate) fn zero<'a>(parser: &Parser<'a>) -> Index<'a>
     ensures { index_view result ≡ number 0 }
 {
     Index::Num(0, parser.prev_span())
 }
 
-/// Parses an index if the next token begins one; otherwise returns 0.
+/// Parses an index if the next token is an index. Otherwise returns 0.
 #[tactic(auto, unfolding(crate::specs::Tables::index_or_0))]
 pub(crate) fn index_or_0<'a>(parser: &mut Parser<'a>) -> Result<Index<'a>>
     ensures reads { Reads (plain index_view) index_or_0 result parser.old parser.new }
@@ -115,8 +115,8 @@ pub(crate) fn index_pair<'a>(parser: &mut Parser<'a>) -> Result<(Index<'a>, Inde
     Ok((first, second))
 }
 
-/// Parses a target and a segment if the second token is an index. Otherwise it parses a segment,
-/// and the target is 0.
+/// Parses a target and a segment if the second token is an index. Otherwise parses a segment, and
+/// the target is 0.
 #[tactic(auto, unfolding(crate::specs::Tables::init))]
 fn target_and_segment<'a>(parser: &mut Parser<'a>) -> Result<(Index<'a>, Index<'a>)>
     ensures reads { Reads (plain (λ p. (index_view p.0, index_view p.1))) init result parser.old
@@ -202,7 +202,7 @@ impl<'a> Parse<'a> for MemoryInit<'a> {
     }
 }
 
-/// A destination and a source, or nothing; then both are table 0.
+/// A destination and a source. If the next token isn't an index, both are table 0.
 impl<'a> Parse<'a> for TableCopy<'a> {
     ghost View = { Idx × Idx };
 
@@ -216,7 +216,7 @@ impl<'a> Parse<'a> for TableCopy<'a> {
     }
 }
 
-/// A destination and a source, or nothing; then both are memory 0.
+/// A destination and a source. If the next token isn't an index, both are memory 0.
 impl<'a> Parse<'a> for MemoryCopy<'a> {
     ghost View = { Idx × Idx };
 

@@ -23,9 +23,11 @@ pub enum V128Const {
     I32x4([i32; 4]),
     /// 2 integers of 64 bits.
     I64x2([i64; 2]),
-    /// 4 floating-point numbers of 32 bits. The parser never returns it: `f32x4` is an error.
+    /// 4 floating-point numbers of 32 bits. The parser never returns this variant: `f32x4` is an
+    /// error.
     F32x4([F32; 4]),
-    /// 2 floating-point numbers of 64 bits. The parser never returns it: `f64x2` is an error.
+    /// 2 floating-point numbers of 64 bits. The parser never returns this variant: `f64x2` is an
+    /// error.
     F64x2([F64; 2]),
 }
 
@@ -33,11 +35,11 @@ pub enum V128Const {
 /// "Vector Instructions").
 #[derive(Clone, Debug, Drop)]
 pub struct I8x16Shuffle {
-    /// For each lane of the result, the index of the lane to take.
+    /// For each lane of the result, the index of the input lane to take.
     pub lanes: [u8; 16],
 }
 
-/// Returns the items of `a`, and then those of `b`.
+/// Returns the items of `a`, and then the items of `b`.
 fn join_2<T: Copy>(a: [T; 2], b: [T; 2]) -> [T; 4]
     ensures { result ≡ a ++ b }
 {
@@ -46,7 +48,7 @@ fn join_2<T: Copy>(a: [T; 2], b: [T; 2]) -> [T; 4]
     [a0, a1, b0, b1]
 }
 
-/// Returns the items of `a`, and then those of `b`.
+/// Returns the items of `a`, and then the items of `b`.
 fn join_4<T: Copy>(a: [T; 4], b: [T; 4]) -> [T; 8]
     ensures { result ≡ a ++ b }
 {
@@ -55,7 +57,7 @@ fn join_4<T: Copy>(a: [T; 4], b: [T; 4]) -> [T; 8]
     [a0, a1, a2, a3, b0, b1, b2, b3]
 }
 
-/// Returns the items of `a`, and then those of `b`.
+/// Returns the items of `a`, and then the items of `b`.
 fn join_8<T: Copy>(a: [T; 8], b: [T; 8]) -> [T; 16]
     ensures { result ≡ a ++ b }
 {
@@ -110,8 +112,8 @@ fn sixteen<'a, T: Parse<'a> + Copy>(parser: &mut Parser<'a>) -> Result<[T; 16]>
     Ok(join_8(first, second))
 }
 
-/// Parses the shape of floating-point lanes, and fails at the first number: no float literal is
-/// parsed.
+/// Parses the shape of floating-point lanes, and fails at the first number, since float literals
+/// aren't supported.
 #[tactic(auto, using(crate::proofs::Again::lanes), unfolding(crate::specs::Vector::float_const))]
 fn read_floats<'a>(parser: &mut Parser<'a>) -> Result<V128Const>
     ensures reads { Reads (plain (λ v. v)) float_const result parser.old parser.new }
@@ -137,10 +139,11 @@ fn read_wide<'a>(parser: &mut Parser<'a>) -> Result<V128Const>
     read_floats(parser)
 }
 
-/// A shape and its lanes: `i8x16` and 16 integers of 8 bits, `i16x8` and 8 of 16 bits, `i32x4` and
-/// 4 of 32 bits, or `i64x2` and 2 of 64 bits. The error is Range, at the integer, if an integer is
-/// out of the range of its signed or unsigned type. After `f32x4` or `f64x2` the error is
-/// FloatLiteral, at the first number.
+/// A shape and its lanes: `i8x16` and 16 integers of 8 bits, `i16x8` and 8 integers of 16 bits,
+/// `i32x4` and 4 integers of 32 bits, or `i64x2` and 2 integers of 64 bits.
+///
+/// Returns Range, at the integer, if an integer is out of the range of its signed or unsigned type.
+/// Returns FloatLiteral, at the first number, after `f32x4` or `f64x2`.
 impl<'a> Parse<'a> for V128Const {
     ghost use Rattle.wat_operands.specs.declared.vector.V128Const.{V128Const};
 
@@ -162,7 +165,7 @@ impl<'a> Parse<'a> for V128Const {
     }
 }
 
-/// 16 unsigned numbers of 8 bits. The error is Range, at the number, if it has a `-` or is too
+/// 16 unsigned numbers of 8 bits. Returns Range, at the number, if a number has a `-` or is too
 /// large.
 impl<'a> Parse<'a> for I8x16Shuffle {
     ghost use Rattle.wat_operands.specs.declared.vector.I8x16Shuffle.{I8x16Shuffle};

@@ -1,5 +1,5 @@
--- What is written of values, and which can be written, by a name for each: for crates whose
--- printings aren't forms.
+-- The tokens and the test of each form under a name of its own. Crates whose printings aren't forms
+-- use these names.
 use Rattle.std.specs.Prelude.{ℕ, Bool, List, codes}
 use Rattle.wat_lexer.specs.Token.{Tok}
 use Rattle.wat_tokens.specs.Index.{Idx}

@@ -1,4 +1,6 @@
--- How values are written: forms, which combine as productions do.
+-- Forms: how values are written. Forms combine as productions do.
+-- Example: `seq_form (flag_form w) index_form` writes the keyword w if the flag is true, and then
+-- the index.
 use Rattle.std.specs.Prelude.{Some, None, ◌≡◌, ℕ, Bool, true, false, not, ◌&&◌, ◌||◌, if◌then◌else◌}
 use Rattle.std.specs.Prelude.{List, [], ◌∷◌, ◌++◌, Option, flat_map, ◌⊎◌}
 use Rattle.std.proofs.Common.{inl, inr}
@@ -7,22 +9,24 @@ use Rattle.wat_tokens.specs.Spelled.{in_parens}
 use Rattle.wat_tokens.specs.Tests.{begins_word}
 use Rattle.wat_print.specs.Parts.{spell_option, if_some, each}
 
--- of the tokens that follow
+-- a test of a list of tokens, usually of the rest
 abbrev pub Test : Type 0
 Test = List Tok → Bool
 
--- every rest
+-- passes for every rest
 abbrev pub any : Test
 any r = true
 
--- spell: the tokens that are written of a value
--- printable: a test that each value passes which tokens of a text spell
--- ready: whether the value can be written
--- follows: the rests in front of which the tokens are read as this value
--- empty: there may be no token
--- balanced: each `)` closes a `(` of the same tokens
--- Fronts: what has to hold of a test, so that it passes wherever such tokens are in front of a rest
--- that passes a test of its own, which is the first argument
+-- How values of the type A are written. `Prints` in Prints.antt holds the facts about a form.
+-- spell: returns the tokens to write for a value
+-- printable: true for every value that the tokens of some text spell
+-- ready: true only for values that the form can write
+-- follows: true only for rests before which the written tokens are read as the value
+-- empty: true if the form may write no token
+-- balanced: true if each `)` closes a `(` of the same tokens
+-- Fronts: `Fronts rest test` is a condition on `test`. If the condition holds, `test` passes on the
+-- written tokens followed by any rest that passes `rest`. If `empty` is true, `test` must also pass
+-- on that rest.
 pub record Form (A : Type 0) : Type 1 where
   pub spell : A → List Tok
   pub printable : A → Bool
@@ -45,14 +49,14 @@ token_form token printable Fronts = record {
   Fronts = Fronts;
 }
 
--- the test passes of the word and what may be behind it
+-- `test` passes on the word followed by any rest that passes `rest`
 abbrev pub OfWord : List ℕ → Test → Test → Type 0
 OfWord w rest test = (y : List Tok) → rest y ≡ true → test (Keyword w ∷ y) ≡ true
 
 abbrev pub word_form : List ℕ → Form (Unit {0})
 word_form w = token_form (λ _. Keyword w) (λ _. true) (OfWord w)
 
--- word?, where the flag says so
+-- word?: the word if the flag is true
 abbrev pub flag_form : List ℕ → Form Bool
 flag_form w = record {
   spell = λ b. if b then Keyword w ∷ [] else [];
@@ -75,7 +79,8 @@ abbrev pub SeqFronts : Bool → (Test → Test → Type 0) → (Test → Test �
 SeqFronts true F G behind rest test = F behind test × G rest test
 SeqFronts false F G behind rest test = F behind test
 
--- where a test passes of all that the second writes
+-- p, then q. `behind` is a test that passes on the tokens of q followed by any rest. Fronts of p
+-- takes `behind` as the test of its rest.
 abbrev pub behind_form : {A B : Type 0} → Test → Form A → Form B → Form (A × B)
 behind_form behind p q = record {
   spell = λ v. p.spell v.0 ++ q.spell v.1;
@@ -90,7 +95,7 @@ behind_form behind p q = record {
 abbrev pub seq_form : {A B : Type 0} → Form A → Form B → Form (A × B)
 seq_form p q = behind_form any p q
 
--- ---- a value by the parts that are written of it
+-- ---- a value, written by its parts
 
 abbrev pub by : {A B : Type 0} → (B → A) → Form A → Form B
 by parts p = record {
@@ -103,7 +108,7 @@ by parts p = record {
   Fronts = p.Fronts;
 }
 
--- the same, with a test of its own
+-- the same, with a separate test for `printable` and `ready`
 abbrev pub by_where : {A B : Type 0} → (B → Bool) → (B → A) → Form A → Form B
 by_where printable parts p = record {
   spell = λ v. p.spell (parts v);
@@ -115,11 +120,11 @@ by_where printable parts p = record {
   Fronts = p.Fronts;
 }
 
--- where it is written only of values that pass a test
+-- p, but ready only for values that pass `ok`
 abbrev pub only_where_form : {A : Type 0} → (A → Bool) → Form A → Form A
 only_where_form ok p = record p { ready = λ v. ok v && p.ready v }
 
--- where it is never written
+-- p, but never ready: no value is written by this form
 abbrev pub unwritten_form : {A : Type 0} → Form A → Form A
 unwritten_form p = record p { ready = λ _. false; Fronts = λ rest test. Unit {0} }
 
@@ -129,12 +134,12 @@ abbrev pub pick : {A B C : Type 0} → (A → C) → (B → C) → A ⊎ B → C
 pick f g (inl a) = f a
 pick f g (inr b) = g b
 
--- where nothing may be written, the rest fails the test
+-- if the second part may write no token, the rest must fail the test
 abbrev pub else_follows : Bool → Test → Test → Test
 else_follows true test f r = not (test r) && f r
 else_follows false test f r = f r
 
--- what the second writes fails the test, in front of a rest that passes another
+-- p or q. `test` selects p: the tokens of q fail the test before each rest that passes `rest`.
 abbrev pub told_form : {A B : Type 0} → Test → Test → Form A → Form B → Form (A ⊎ B)
 told_form rest test p q = record {
   spell = pick p.spell q.spell;
@@ -166,7 +171,7 @@ option_form begins p = record {
   Fronts = p.Fronts;
 }
 
--- the same, where it is written only of values that are there
+-- the same, but ready only for values that are present
 abbrev pub filled_form : {A : Type 0} → Test → Form A → Form (Option A)
 filled_form begins p = record {
   spell = spell_option p.spell;
@@ -220,9 +225,10 @@ turn_form = record {
   Fronts = λ rest test. ((y : List Tok) → test (RParen ∷ LParen ∷ y) ≡ true);
 }
 
--- ---- what the first part decides
+-- ---- a second part that depends on the first
 
--- in front of rests that pass a test, which does for each second part; the first isn't empty
+-- p, then the form that q returns for the value of p. A rest must pass `ends`. `ends` must suffice
+-- for each form that q returns. p must write at least one token.
 abbrev pub followed_form : {A : Type 0} {C : A → Type 0} → Test → Form A → ((a : A) → Form (C a))
     → Form ((a : A) × C a)
 followed_form ends p q = record {
@@ -252,7 +258,7 @@ blank_form = record {
 abbrev pub before_unit : {A : Type 0} → A → A × Unit {0}
 before_unit a = (a, tt)
 
--- the word, and then
+-- word, then p
 abbrev pub after_form : {A : Type 0} → List ℕ → Form A → Form A
 after_form w p = record {
   spell = λ v. Keyword w ∷ p.spell v;

@@ -1,4 +1,4 @@
--- How labels are written, and lists of parts that may have one: parameters and fields.
+-- How labels are written, and lists of parts with optional labels: parameters and fields.
 use Rattle.std.specs.Prelude.{◌≡◌, ℕ, Bool, true, false, Option, not, ◌&&◌, if◌then◌else◌, List, []}
 use Rattle.std.specs.Prelude.{◌∷◌, codes, map}
 use Rattle.std.specs.Str.{is_utf8}
@@ -45,7 +45,7 @@ abbrev pub label_form : Form Label
 label_form =
     by label_parts (seq_form (option_form begins_id id_form) (option_form begins_name name_form))
 
--- none of the parts has a label
+-- no part has a label
 abbrev pub none_labelled : {A : Type 0} → (A → Label) → List A → Bool
 none_labelled label [] = true
 none_labelled label (v ∷ vs) = not (labelled (label v)) && none_labelled label vs
@@ -53,13 +53,13 @@ none_labelled label (v ∷ vs) = not (labelled (label v)) && none_labelled label
 abbrev pub by_itself : {A : Type 0} → A → List A
 by_itself v = v ∷ []
 
--- in one group where none has a label, else each in a group of its own
+-- one group if no part has a label, otherwise one group for each part
 abbrev pub in_groups : {A : Type 0} → (A → Label) → List A → List (List A)
 in_groups label [] = []
 in_groups label (v ∷ vs) =
     if none_labelled label (v ∷ vs) then (v ∷ vs) ∷ [] else map by_itself (v ∷ vs)
 
--- one part with a label, or parts without
+-- one part with a label, or parts without labels
 module _ {T P : Type 0} (value : Form T) (label_in : P → Label) (value_in : P → T) where
   abbrev pub part_form : Form P
   part_form = by (λ x. (label_in x, value_in x)) (seq_form label_form value)
@@ -86,7 +86,7 @@ module _ {T P : Type 0} (value : Form T) (label_in : P → Label) (value_in : P 
   abbrev pub may_share : List P → Bool
   may_share xs = (at_most_one xs || none_labelled label_in xs) && each part_form.printable xs
 
-  -- what may stand in one group
+  -- the parts that one group may have
   abbrev pub listed_form : Form (List P)
   listed_form = record (by_where may_share listed_parts tree_form) {
     spell = flat_map part_form.spell;

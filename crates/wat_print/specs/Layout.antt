@@ -8,12 +8,12 @@ abbrev pub blanks : ℕ → List ℕ
 blanks zero = []
 blanks (suc n) = 32 ∷ blanks n
 
--- a token, or a line break with so many blanks behind it
+-- a token, or a line break followed by n blanks
 pub data LayoutPart : Type 0 where
   one : Tok → LayoutPart
   line : ℕ → LayoutPart
 
--- a line break and blanks; nothing, where no blank is wanted or lines stay whole
+-- appends a line break and n blanks; nothing if the page is tight or its lines can't be broken
 abbrev pub broken : ℕ → Page → Page
 broken n p =
     if p.lines && not p.tight then record {
@@ -32,7 +32,8 @@ tokens_in [] = []
 tokens_in (one t ∷ ps) = t ∷ tokens_in ps
 tokens_in (line n ∷ ps) = tokens_in ps
 
--- From a to b the tokens were written, and lines broken between them where they may be.
+-- The page was a, and is b after the tokens are written. Lines may be broken between the tokens, if
+-- the page allows line breaks.
 pub record Writes (ts : List Tok) (a b : Page) : Type 0 where
   pub pieces : List LayoutPart
   pub tokens : tokens_in pieces ≡ ts

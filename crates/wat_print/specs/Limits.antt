@@ -13,11 +13,11 @@ use Rattle.wat_print.specs.Form.{option_form, by, by_where, else_form, group_for
 use Rattle.wat_print.specs.Parts.{spell_flag}
 use Rattle.wat_print.specs.Reference.{ref_form}
 
--- of 64 bits
+-- a number of 64 bits
 abbrev pub is_u64 : ℕ → Bool
 is_u64 n = nat_lt n (2 ^ 64)
 
--- 2^k has 32 bits
+-- 2^k is a number of 32 bits
 abbrev pub is_exponent : ℕ → Bool
 is_exponent k = nat_lt k 32
 

@@ -1,4 +1,4 @@
--- How parts are written: words, groups, lists, what may be absent.
+-- How parts are written: words, groups, lists and optional parts.
 use Rattle.std.specs.Prelude.{◌≡◌, ℕ, Bool, true, ◌&&◌, if◌then◌else◌, List, [], ◌∷◌, Option, Some}
 use Rattle.std.specs.Prelude.{None, map, flat_map}
 use Rattle.wat_lexer.specs.Token.{Tok, Keyword}
@@ -10,33 +10,34 @@ use Rattle.wat_print.specs.Text.{Page, put}
 abbrev pub grouped : List ℕ → List Tok → List Tok
 grouped w ts = in_parens (Keyword w ∷ ts)
 
--- the word, where the flag says so
+-- the word if the flag is true
 abbrev pub spell_flag : List ℕ → Bool → List Tok
 spell_flag w b = if b then Keyword w ∷ [] else []
 
--- nothing, where there is no value
+-- no token if there is no value
 abbrev pub spell_option : {A : Type 0} → (A → List Tok) → Option A → List Tok
 spell_option spell (Some v) = spell v
 spell_option spell None = []
 
--- the test passes of the value, or there is none
+-- the value passes the test, or there is no value
 abbrev pub if_some : {A : Type 0} → (A → Bool) → Option A → Bool
 if_some test (Some v) = test v
 if_some test None = true
 
--- the test passes of each
+-- each value passes the test
 abbrev pub each : {A : Type 0} → (A → Bool) → List A → Bool
 each test [] = true
 each test (v ∷ vs) = test v && each test vs
 
--- From a to b the values were written, one behind the other, and all can be.
+-- The page was a, and is b after the values are written, one after the other. All of them are
+-- printable.
 pub record Wrote {X A : Type 0} (view : X → A) (spell : A → List Tok) (printable : A → Bool)
     (xs : List X) (a b : Page)
     : Type 0 where
   pub written : b ≡ put a (flat_map spell (map view xs))
   pub fits : each printable (map view xs) ≡ true
 
--- The same, where lines may have been broken.
+-- The same, but lines may be broken.
 pub record WroteLines {X A : Type 0} (view : X → A) (spell : A → List Tok) (printable : A → Bool)
     (xs : List X) (a b : Page)
     : Type 0 where

@@ -1,4 +1,4 @@
--- What printing promises.
+-- The facts about printing.
 use Rattle.std.specs.Prelude.{Result, OnOk, IfErr, ◌≢◌, ◌≡◌, ℕ, Bool, true, false, List, [], ◌++◌}
 use Rattle.std.specs.Str.{IsUtf8}
 use Rattle.std.proofs.Common.{subst}
@@ -23,17 +23,18 @@ abbrev pub may_break : Layout → Bool
 may_break Line = false
 may_break Indented = true
 
--- wherever they stand in a text, no tokens spell the value
+-- no tokens of any text spell the value
 abbrev pub NoneSpells : {A : Type 0} → Production A → A → Type 0
 NoneSpells g v =
     (x : List ℕ) (ps : List Placed) (known : Bool) (b c r : List Tok) → IsUtf8 x → IsCut x ps
     → visible_tokens known (tokens_of ps) ≡ b ++ (c ++ r) → g.spells v c r → ⊥
 
--- How values of a production are printed.
--- spell: the tokens that are written of a value
--- printable: whether it can be written
--- The facts say that what is written can be cut again, that it spells the value, and that each
--- value which tokens of a text spell can be written.
+-- How the values of a production are printed.
+-- spell: returns the tokens to write for a value
+-- printable: true if the value can be written
+-- well_formed: the written tokens can be cut again
+-- spells: the written tokens spell the value
+-- only: each value that tokens of a text spell is printable
 pub record Printing {A : Type 0} (g : Production A) : Type 0 where
   pub spell : A → List Tok
   pub printable : A → Bool
@@ -41,8 +42,10 @@ pub record Printing {A : Type 0} (g : Production A) : Type 0 where
   pub spells : (v : A) → printable v ≡ true → g.spells v (spell v) []
   pub only : (v : A) (c r : List Tok) → each is_given c ≡ true → g.spells v c r → printable v ≡ true
 
--- From a to b a call answered r that writes the value: it was written, or it can't be, or memory
--- ran out.
+-- A call that writes v returned r. The page was a before the call, and is b after it.
+-- written: if r is Ok, the tokens of v were written
+-- printable: if r is Ok, v is printable
+-- refused: if r is an error other than Memory, v isn't printable
 pub record Written {X A : Type 0} {g : Production A} (p : Printing g) (v : A) (r : Result X Refused)
     (a b : Page)
     : Type 0 where
@@ -50,7 +53,7 @@ pub record Written {X A : Type 0} {g : Production A} (p : Printing g) (v : A) (r
   pub printable : OnOk r (p.printable v ≡ true)
   pub refused : IfErr r (λ e. e ≢ Memory → p.printable v ≡ false)
 
--- what is written spells the value in front of any rest
+-- the printing, if the written tokens spell the value before any rest
 abbrev pub printing_of : {A : Type 0} {g : Production A} (spell : A → List Tok)
     (printable : A → Bool) → ((v : A) → printable v ≡ true → WellFormed (spell v))
     → ((v : A) → printable v ≡ true → (r : List Tok) → g.spells v (spell v) r)
@@ -63,7 +66,7 @@ printing_of spell printable well_formed here only = record {
   only = only.holds;
 }
 
--- what is written spells the value where nothing follows
+-- the printing, if the written tokens spell the value before the empty rest
 abbrev pub printing_at_end : {A : Type 0} {g : Production A} (spell : A → List Tok)
     (printable : A → Bool) → ((v : A) → printable v ≡ true → WellFormed (spell v))
     → ((v : A) → printable v ≡ true → g.spells v (spell v) []) → OnlyPrintable g printable
@@ -76,14 +79,14 @@ printing_at_end spell printable well_formed here only = record {
   only = only.holds;
 }
 
--- every value can be written
+-- the printing, if every value is printable
 abbrev pub printing_of_all : {A : Type 0} {g : Production A} (spell : A → List Tok)
     → ((v : A) → WellFormed (spell v)) → ((v : A) (r : List Tok) → g.spells v (spell v) r)
     → Printing g
 printing_of_all {g = g} spell well_formed here =
     printing_of spell (λ _. true) (λ v h. well_formed v) (λ v h. here v) (only_any g)
 
--- by a form, at the end
+-- the printing of a form, if the empty rest is in `follows`
 abbrev pub printing_by : {A : Type 0} {g : Production A} (form : Form A) → Prints form g
     → ((v : A) → form.printable v ≡ true → form.ready v ≡ true) → form.balanced ≡ true
     → form.follows [] ≡ true → Printing g

@@ -1,4 +1,5 @@
--- What the combinators of forms keep: that what is written is read again.
+-- The facts about a form and a production: the production reads the written tokens as the same
+-- value. The combinators of forms keep these facts.
 use Rattle.std.specs.Prelude.{flat_map, ◌≡◌, Bool, true, false, List, ◌∷◌, ◌++◌, Result, OnOk}
 use Rattle.std.specs.Prelude.{IfErr, ◌≢◌}
 use Rattle.wat_lexer.specs.Token.{Tok, RParen}
@@ -11,22 +12,26 @@ use Rattle.wat_print.specs.WellFormed.{WellFormed, is_given}
 use Rattle.wat_print.specs.declared.fault.Refused.{Refused}
 use Rattle.wat_print.specs.declared.fault.Refused.TheVariants.{Memory}
 
--- the test passes of the rest, where nothing may stand in front of it
+-- the test passes on the rest, if a form may write no token before it
 abbrev pub Passes : Bool → Test → List Tok → Type 0
 Passes true test r = test r ≡ true
 Passes false test r = Unit {0}
 
--- what stands behind a `(`, up to its `)` and on
+-- the tokens after a `(`: well-formed tokens, the `)`, and further well-formed tokens
 abbrev pub Closes : List Tok → Type 0
 Closes x = (a : List Tok) × (r : List Tok) × (x ≡ a ++ (RParen ∷ r)) × WellFormed a × WellFormed r
 
--- tokens that can be written: anywhere, or inside parentheses
+-- If the flag is true, the tokens are well formed. If the flag is false, the tokens can be written
+-- inside a group: for each x, if `Closes x` holds, `Closes (ts ++ x)` holds.
 abbrev pub Nests : Bool → List Tok → Type 0
 Nests true ts = WellFormed ts
 Nests false ts = (x : List Tok) → Closes x → Closes (ts ++ x)
 
--- What a production reads of what the form writes, as it is seen; and each value that it reads of a
--- text is one that the form can write.
+-- The production g reads the tokens that the form writes for a value as the view of this value.
+-- nests: the written tokens nest
+-- front: if the condition `Fronts` holds, the test passes on the written tokens and the rest
+-- here: before each rest in `follows`, the written tokens spell the view of the value
+-- only: each value that tokens of a text spell is the view of a printable value
 pub record Unparses {A B : Type 0} (form : Form A) (view : A → B) (g : Production B)
     : Type 0 where
   pub nests : (a : A) → form.ready a ≡ true → Nests form.balanced (form.spell a)
@@ -38,30 +43,33 @@ pub record Unparses {A B : Type 0} (form : Form A) (view : A → B) (g : Product
   pub only : (b : B) (c r : List Tok) → each is_given c ≡ true → g.spells b c r
       → (a : A) × (view a ≡ b) × (form.printable a ≡ true)
 
--- of the values themselves
+-- the same, if the view of a value is the value itself
 abbrev pub Prints : {A : Type 0} → Form A → Production A → Type 0
 Prints form g = Unparses form (λ v. v) g
 
--- where the part isn't empty, what the part has to pass
+-- F holds, and the part always writes a token: the flag is its `empty`
 abbrev pub Must : Bool → Type 0 → Type 0
 Must true F = ⊥
 Must false F = F
 
--- ---- what a call promises that writes by a form
+-- ---- the contract of a call that writes by a form
 
--- From a to b it answered r: the value was written, or it can't be, or memory ran out.
+-- A call that writes v returned r. The page was a before the call, and is b after it.
+-- written: if r is Ok, b is a and the tokens of v
+-- printable: if r is Ok, v is printable
+-- refused: if r is an error other than Memory, v isn't printable
 pub record Printed {X A : Type 0} (form : Form A) (v : A) (r : Result X Refused) (a b : Page)
     : Type 0 where
   pub written : OnOk r (b ≡ put a (form.spell v))
   pub printable : OnOk r (form.printable v ≡ true)
   pub refused : IfErr r (λ e. e ≢ Memory → form.printable v ≡ false)
 
--- of the values vs ws are still to be written, where a is the page at the start, and b so far
+-- The values ws are left to write, of the values vs. The page was a at the start, and is b now.
 pub record Left {A : Type 0} (form : Form A) (ws vs : List A) (a b : Page) : Type 0 where
   pub written : put b (flat_map form.spell ws) ≡ put a (flat_map form.spell vs)
   pub printable : each form.printable ws ≡ each form.printable vs
 
--- The same, where lines may have been broken.
+-- The same as `Printed`, but the call may break lines.
 pub record PrintedLines {X A : Type 0} (form : Form A) (v : A) (r : Result X Refused) (a b : Page)
     : Type 0 where
   pub written : OnOk r (Writes (form.spell v) a b)

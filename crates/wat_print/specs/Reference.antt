@@ -43,7 +43,7 @@ heap_form =
 
 -- ---- reference types
 
--- the shorthand for a nullable reference to it
+-- the shorthand for a nullable reference to the heap type
 abbrev pub short_word : AbstractHeapType → List ℕ
 short_word word.Func = codes "funcref"
 short_word word.Extern = codes "externref"
@@ -60,7 +60,7 @@ short_word word.NoExn = codes "nullexnref"
 short_word word.NoCont = codes "nullcontref"
 short_word word.None = codes "nullref"
 
--- by its shorthand, where it isn't shared and has one
+-- the shorthand, if the reference is nullable and its heap type is abstract and not shared
 abbrev pub ref_side : Bool → HeapTy → Bool × HeapTy ⊎ (AbstractHeapType ⊎ AbstractHeapType)
 ref_side true (abstract_ false t) = inr (inr t)
 ref_side nullable h = inl (nullable, h)

@@ -1,4 +1,4 @@
--- The reasons for which a value isn't printed, by their numbers.
+-- The numbers of the reasons to refuse a value.
 use Rattle.std.specs.Prelude.{ℕ}
 use Rattle.wat_print.specs.declared.fault.Refused.{Refused}
 use Rattle.wat_print.specs.declared.fault.Refused.TheVariants.{Memory, EmptyName, Label, PageSize}

@@ -26,11 +26,11 @@ field_side false t = inr t
 abbrev pub field_parts : FieldTy → StorageTy ⊎ StorageTy
 field_parts f = field_side f.mutable f.ty
 
--- a storage type may be one token, so that the next one is in the rest
+-- a storage type may be a single token, so the second token may belong to the rest
 abbrev pub no_mut : Test
 no_mut r = not (begins_word (codes "mut") r)
 
--- ( mut StorageType ), or the storage type of a field that can't be written
+-- ( mut StorageType ), or the storage type if the field is immutable
 abbrev pub field_form : Form FieldTy
 field_form =
     by field_parts (told_form no_mut (second (begins_word (codes "mut")))
@@ -52,7 +52,7 @@ is_long v = v.0 || v.1.0
 abbrev pub no_long : Test
 no_long r = not (begins_word (codes "shared") r || begins_word (codes "mut") r)
 
--- the value type, in parentheses behind `shared` and `mut` where one of them stands
+-- the value type; in parentheses after `shared` and `mut` if the type has either
 abbrev pub global_form : Form GlobalTy
 global_form =
     by global_parts (told_form no_long long_global (only_where_form is_long

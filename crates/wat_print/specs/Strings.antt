@@ -7,6 +7,6 @@ use Rattle.wat_print.specs.Text.{all_are}
 abbrev pub spell_string : List ℕ → List Tok
 spell_string s = String s ∷ []
 
--- numbers below 256
+-- each number is below 256
 abbrev pub printable_string : List ℕ → Bool
 printable_string s = all_are is_byte s

@@ -1,4 +1,4 @@
--- Tokens as text.
+-- The text of tokens.
 use Rattle.std.specs.Prelude.{ℕ, ◌/◌, ◌%◌, Bool, true, false, ◌&&◌, ◌||◌, if◌then◌else◌, nat_lt}
 use Rattle.std.specs.Prelude.{List, [], ◌∷◌, ◌++◌}
 use Rattle.std.specs.Char.{digit_char}
@@ -10,29 +10,29 @@ use Rattle.wat_lexer.specs.Token.{Reserved, is_open, is_close}
 
 -- ---- one token
 
--- a byte in a string: itself, if it may stand so, and the string is UTF-8 or the byte is ASCII;
--- else its two hex digits
+-- A byte in a string: the byte itself if it may occur unescaped, and the string is UTF-8 or the
+-- byte is ASCII. Otherwise `\` and its two hex digits.
 abbrev pub escape : Bool → ℕ → List ℕ
 escape utf8 b =
     if is_raw b && (utf8 || nat_lt b 128) then b ∷ []
     else 92 ∷ digit_char (b / 16) ∷ digit_char (b % 16) ∷ []
 
--- the content of a string, and the closing quote; whether the string is UTF-8
+-- the content of a string, and the closing quote; the flag is true if the string is UTF-8
 abbrev pub quoted_as : Bool → List ℕ → List ℕ
 quoted_as utf8 [] = 34 ∷ []
 quoted_as utf8 (b ∷ s) = escape utf8 b ++ quoted_as utf8 s
 
--- the content of a string, and the closing quote: a string that is UTF-8 as a whole keeps its
--- characters past ASCII, and in another each byte past ASCII is its two hex digits
+-- The content of a string, and the closing quote. If the whole string is UTF-8, its non-ASCII
+-- characters stay. Otherwise each non-ASCII byte is escaped as two hex digits.
 abbrev pub quoted : List ℕ → List ℕ
 quoted s = quoted_as (is_utf8 s) s
 
--- the test passes of each byte
+-- each byte passes the test
 abbrev pub all_are : (ℕ → Bool) → List ℕ → Bool
 all_are test [] = true
 all_are test (b ∷ r) = test b && all_are test r
 
--- a name: itself where it is idchars alone, else a string
+-- a name: unquoted if all its bytes are idchars, otherwise a string
 abbrev pub name_text : List ℕ → List ℕ
 name_text n = if all_are is_idchar n then n else 34 ∷ quoted n
 
@@ -46,10 +46,11 @@ token_text (Integer k) = k
 token_text (String s) = 34 ∷ quoted s
 token_text (Reserved k) = k
 
--- ---- tokens, one behind the other
+-- ---- tokens, one after the other
 
--- a text so far; whether no blank is wanted behind it: at the start, and behind a `(`; and whether
--- its lines may be broken
+-- An output so far.
+-- tight: true if the next token follows without a blank: at the start, and after a `(`
+-- lines: true if lines may be broken
 pub record Page : Type 0 where
   pub bytes : List ℕ
   pub tight : Bool
@@ -58,11 +59,11 @@ pub record Page : Type 0 where
 abbrev pub blank_page : Bool → Page
 blank_page lines = record { bytes = []; tight = true; lines = lines }
 
--- what stands in front of a token: a space, but at the start, behind `(` and in front of `)`
+-- the space before a token; no space at the start, after `(` and before `)`
 abbrev pub gap : Bool → Tok → List ℕ
 gap tight t = if tight || is_close t then [] else 32 ∷ []
 
--- one token more
+-- appends a token
 abbrev pub put_one : Page → Tok → Page
 put_one p t =
     record {
@@ -71,11 +72,11 @@ put_one p t =
       lines = p.lines;
     }
 
--- tokens more
+-- appends tokens
 abbrev pub put : Page → List Tok → Page
 put p [] = p
 put p (t ∷ ts) = put (put_one p t) ts
 
--- the tokens' text, on one line
+-- the text of tokens on one line
 abbrev pub printed_text : List Tok → List ℕ
 printed_text ts = (put (blank_page false) ts).bytes

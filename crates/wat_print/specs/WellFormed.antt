@@ -1,4 +1,4 @@
--- Tokens that can be written, and tokens that a text can give.
+-- Tokens that can be written, and tokens that occur in texts.
 use Rattle.std.specs.Prelude.{◌≡◌, ℕ, Bool, true, false, ◌&&◌, nat_lt, List, [], ◌∷◌, ◌++◌}
 use Rattle.std.specs.Str.{is_utf8}
 use Rattle.wat_lexer.specs.Bytes.{is_idchar, between}
@@ -7,7 +7,7 @@ use Rattle.wat_lexer.specs.Sight.{is_standard}
 use Rattle.wat_lexer.specs.Token.{Tok, LParen, RParen, Keyword, Id, Annotation, Integer, String}
 use Rattle.wat_print.specs.Text.{all_are}
 
--- idchars that begin with a letter from a to z
+-- idchars, the first of which is a letter from a to z
 abbrev pub is_keyword : List ℕ → Bool
 is_keyword [] = false
 is_keyword (b ∷ r) = between 97 122 b && all_are is_idchar (b ∷ r)
@@ -15,12 +15,12 @@ is_keyword (b ∷ r) = between 97 122 b && all_are is_idchar (b ∷ r)
 abbrev pub is_byte : ℕ → Bool
 is_byte b = nat_lt b 256
 
--- UTF-8, of one byte at least
+-- UTF-8 of at least one byte
 abbrev pub is_name : List ℕ → Bool
 is_name [] = false
 is_name (b ∷ r) = is_utf8 (b ∷ r)
 
--- a token that can be written, parentheses and annotations aside
+-- a token that can be written and is neither a parenthesis nor an annotation
 abbrev pub is_printable : Tok → Bool
 is_printable (Keyword k) = is_keyword k
 is_printable (Id n) = is_name n
@@ -28,7 +28,8 @@ is_printable (Integer k) = all_are is_idchar k && is_integer k
 is_printable (String s) = all_are is_byte s
 is_printable _ = false
 
--- tokens that can be written: parentheses nest, and annotations are behind a `(` and are standard
+-- Tokens that can be written: parentheses nest, and each annotation is standard and directly after
+-- a `(`.
 pub data WellFormed : List Tok → Type 0 where
   nothing : WellFormed []
   token : (t : Tok) (r : List Tok) → is_printable t ≡ true → WellFormed r → WellFormed (t ∷ r)
@@ -37,8 +38,8 @@ pub data WellFormed : List Tok → Type 0 where
       → WellFormed r
       → WellFormed (LParen ∷ (Annotation n ∷ (a ++ RParen ∷ r)))
 
--- a token that a text can give: names are UTF-8 and not empty, an integer is written as one, a
--- string has bytes
+-- A token that can occur in a text: a name is UTF-8 and not empty, an integer has the syntax of
+-- integers, and each element of a string is a byte.
 abbrev pub is_given : Tok → Bool
 is_given (Id n) = is_name n
 is_given (Annotation n) = is_name n

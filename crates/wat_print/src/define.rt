@@ -1,7 +1,7 @@
 //! How definitions of types, and recursion groups, are printed.
 //!
-//! A [`TypeDef`] isn't printed alone: the groups of what it describes close parentheses that they
-//! don't open.
+//! A [`TypeDef`] has no [`Print`]: its `describes` and `descriptor` clauses close parentheses that
+//! they don't open.
 
 ghost use Rattle.std.specs.Prelude.{List, map};
 ghost use Rattle.wat_tokens.specs.Index.{Idx, index_view, index, begins_index};
@@ -30,8 +30,8 @@ use crate::traits::Print;
 use wat_tokens::Index;
 use wat_types::{ContType, InnerTypeKind, Rec, Type, TypeDef};
 
-/// Writes what a definition defines, without its parentheses: `func`, `struct`, `array` or `cont`,
-/// and the type (Text Format, Types, "Composite Types").
+/// Writes the kind of a definition, without parentheses: `func`, `struct`, `array` or `cont`, and
+/// the type (Text Format, Types, "Composite Types").
 pub fn write_kind(out: &mut Output, kind: &InnerTypeKind) -> Result<(), Refused>
     ensures { Printed kind_form (inner_kind_view kind.now) result out.old out.new }
 {
@@ -55,7 +55,7 @@ pub fn write_kind(out: &mut Output, kind: &InnerTypeKind) -> Result<(), Refused>
     }
 }
 
-/// Writes the word, the index, and `) (`, where there is an index.
+/// Writes the word, the index and `) (` if there is an index.
 #[tactic(auto, using(crate::specs::Laws::Written::put_both))]
 fn write_link(out: &mut Output, word: &str, index: &Option<Index>) -> Result<(), Refused>
     ensures { Printed (link_form word.now) (option_view index_view index.now) result out.old
@@ -72,8 +72,7 @@ fn write_link(out: &mut Output, word: &str, index: &Option<Index>) -> Result<(),
     }
 }
 
-/// Writes what a definition describes and what describes it, and then what it defines, without the
-/// parentheses around the last.
+/// Writes the described type, the descriptor type, and then the kind without its parentheses.
 #[tactic(auto, using(crate::specs::Laws::Written::put_both))]
 fn write_core(out: &mut Output, def: &TypeDef) -> Result<(), Refused>
     ensures { Printed core_form (core_parts (def_view def.now)) result out.old out.new }
@@ -83,7 +82,8 @@ fn write_core(out: &mut Output, def: &TypeDef) -> Result<(), Refused>
     write_kind(out, &def.kind)
 }
 
-/// Writes that in parentheses behind `shared`, where the definition is shared.
+/// Writes a definition without `sub`, and in parentheses after `shared` if the definition is
+/// shared.
 #[tactic(auto, using(crate::specs::Laws::Written::put_both))]
 fn write_shared(out: &mut Output, def: &TypeDef) -> Result<(), Refused>
     ensures { Printed shared_form (shared_parts (def_view def.now)) result out.old out.new }
@@ -97,7 +97,7 @@ fn write_shared(out: &mut Output, def: &TypeDef) -> Result<(), Refused>
     out.close()
 }
 
-/// Writes indices, one behind the other.
+/// Writes indices, one after the other.
 #[tactic(auto, using(std::proofs::lemmas::List::drop_more, crate::specs::Laws::Written::put_both))]
 fn write_indices(out: &mut Output, indices: &[Index]) -> Result<(), Refused>
     ensures { Printed (many_form begins_index index_form) (map index_view indices.now) result
@@ -109,8 +109,8 @@ fn write_indices(out: &mut Output, indices: &[Index]) -> Result<(), Refused>
     Ok(())
 }
 
-/// Writes a definition without its parentheses. One that is below others without `sub` is refused
-/// with Parents.
+/// Writes a definition without its parentheses. A definition that has supertypes but no `sub` is
+/// refused with Parents.
 #[tactic(auto, using(crate::specs::Laws::Written::put_both))]
 fn write_bare_def(out: &mut Output, def: &TypeDef) -> Result<(), Refused>
     ensures { Printed def_form (def_view def.now) result out.old out.new }
@@ -129,8 +129,8 @@ fn write_bare_def(out: &mut Output, def: &TypeDef) -> Result<(), Refused>
     }
 }
 
-/// Writes a definition in its parentheses (Text Format, Types, "Recursive Types"). One that is
-/// below others without `sub` is refused with Parents.
+/// Writes a definition in its parentheses (Text Format, Types, "Recursive Types"). A definition
+/// that has supertypes but no `sub` is refused with Parents.
 #[tactic(auto, using(crate::specs::Laws::Written::put_both))]
 pub fn write_def(out: &mut Output, def: &TypeDef) -> Result<(), Refused>
     ensures { Printed (paren_form def_form) (def_view def.now) result out.old out.new }
@@ -150,7 +150,7 @@ pub fn write_type(out: &mut Output, ty: &Type) -> Result<(), Refused>
     write_def(out, &ty.def)
 }
 
-/// Writes a type in its parentheses, on a line of its own where the layout has lines.
+/// Writes a type in its parentheses, on a separate line if the layout has lines.
 fn write_grouped_type(out: &mut Output, ty: &Type) -> Result<(), Refused>
     ensures { PrintedLines (paren_form type_form) (type_view ty.now) result out.old out.new }
 {
@@ -160,7 +160,7 @@ fn write_grouped_type(out: &mut Output, ty: &Type) -> Result<(), Refused>
     out.close()
 }
 
-/// Writes types in their parentheses, each on a line of its own where the layout has lines.
+/// Writes types in their parentheses, each on a separate line if the layout has lines.
 #[tactic(auto, using(crate::specs::Laws::Written::not_each_item))]
 fn write_types(out: &mut Output, types: &[Type]) -> Result<(), Refused>
     ensures { PrintedLines (many_form (second begins_type) (paren_form type_form))

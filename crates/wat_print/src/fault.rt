@@ -1,4 +1,4 @@
-//! Why a value isn't printed.
+//! The reasons to refuse a value.
 
 ghost use Rattle.std.specs.Prelude.{◌≡◌};
 ghost use Rattle.wat_print.specs.Refusal.{refused_number};
@@ -6,61 +6,64 @@ ghost use Rattle.wat_print.specs.Refusal.{refused_number};
 use std::alloc::AllocError;
 use thiserror::Error;
 
-/// Why a value isn't printed. Each reason has a number, from 1 to 13.
+/// The reason why a value is refused. Each reason has a number, from 1 to 13.
 ///
-/// No text spells a value that is refused for another reason than Memory.
+/// If the reason is not Memory, no text spells the value.
 #[derive(Clone, Copy, Debug, PartialEq, Eq, Hash, Error)]
 pub enum Refused {
-    /// A growth was refused memory.
+    /// Out of memory: an allocation failed.
     #[error("memory ran out")]
     Memory = 1,
-    /// An identifier has no character (Text Format, "Identifiers").
+    /// An identifier is empty (Text Format, "Identifiers").
     #[error("an identifier is empty")]
     EmptyName = 2,
-    /// A parameter has an identifier or a name where none may have one (Text Format, "Type Uses"),
-    /// or one of several locals in a group has, or a signature that items share has an identifier.
+    /// A parameter that may have no label has an identifier or a name (Text Format, "Type Uses").
+    /// Or a local in a group of several locals has an identifier or a name. Or a signature that
+    /// several items share has an identifier.
     #[error("a label stands where none may stand")]
     Label = 3,
-    /// A page has 2 to the k bytes, and k is 32 or more, so that the number has more than 32 bits
-    /// (Text Format, Types, "Memory Types", with the size of a page).
+    /// A page has 2^k bytes, and k is 32 or more, so the page size has more than 32 bits (Text
+    /// Format, Types, "Memory Types", with the size of a page).
     #[error("a page size has more than 32 bits")]
     PageSize = 4,
-    /// A definition is declared to be below others, and `sub` isn't written (Text Format, Types,
-    /// "Recursive Types").
+    /// A definition has supertypes but no `sub` (Text Format, Types, "Recursive Types").
     #[error("a definition without `sub` is below others")]
     Parents = 5,
-    /// The alignment of an access is no power of two, and not the one that is meant where none is
-    /// written (Text Format, Instructions, "Memory Instructions").
+    /// The alignment of an access is neither a power of two nor the default alignment of its
+    /// instruction (Text Format, Instructions, "Memory Instructions").
     #[error("an alignment is no power of two")]
     Alignment = 6,
     /// An access has an ordering that its instruction can't have (Text Format, Instructions,
     /// "Memory Instructions", with the proposals on threads).
     #[error("an access has an ordering that its instruction can't have")]
     Ordering = 7,
-    /// No text is read as a floating-point number.
+    /// No text is read as the floating-point number.
     #[error("a floating-point number has no text")]
     Float = 8,
-    /// A hint stands in front of another instruction than `br_if` or `if`, is neither 0 nor 1, or
-    /// isn't in the order of the instructions (Branch Hinting, Custom Annotation
+    /// A hint is before an instruction other than `br_if` or `if`, its value is neither 0 nor 1, or
+    /// the hint isn't in the order of the instructions (Branch Hinting, Custom Annotation
     /// `@metadata.code.branch_hint`).
     #[error("a hint has no instruction that it can stand before")]
     Hint = 9,
-    /// A table is both shared and of 64 bits with its elements in line, these are of another type
-    /// than the table's or a list that is read as another, or what its elements are at first has no
-    /// instruction (Text Format, Modules, "Tables").
+    /// A table (Text Format, Modules, "Tables") that no text is read as:
+    ///
+    /// - a shared 64-bit table with inline elements;
+    /// - a table whose inline elements have another type than the table;
+    /// - a table whose inline elements are a list that is read as another list;
+    /// - a table whose initial value has no instruction.
     #[error("a table has a form that no text is read as")]
     Table = 10,
-    /// The entries of a `producers` section aren't in the order of its fields, or a field has none;
-    /// or the entries of a `dylink.0` section aren't gathered as a text gathers them.
+    /// The entries of a `producers` section aren't in the order of its fields, or a field has no
+    /// entry. Or the entries of a `dylink.0` section aren't grouped as parsing groups them.
     #[error("a custom section has a form that no text is read as")]
     Section = 11,
-    /// An integer isn't written as one (Text Format, Values, "Integers"). None that was read is
-    /// such a one.
+    /// The text of an integer isn't the text of an integer (Text Format, Values, "Integers"). An
+    /// integer that was parsed never has this error.
     #[error("an integer isn't written as one")]
     Integer = 12,
-    /// A folded instruction has no instruction; or a `try_table` is its last and a `catch` or
-    /// `catch_all` its first, and each between them is one of these three (Text Format,
-    /// Instructions, "Folded Instructions").
+    /// A folded instruction contains no instruction. Or its last instruction is `try_table`, its
+    /// first is `catch` or `catch_all`, and each instruction between them is one of these three
+    /// (Text Format, Instructions, "Folded Instructions").
     #[error("no folded instruction has these instructions")]
     Folded = 13,
 }

@@ -20,7 +20,7 @@ use crate::traits::Print;
 use wat_tokens::{Id, NameAnnotation};
 use wat_types::{FunctionType, ValType};
 
-/// Writes a parameter, without its group.
+/// Writes a parameter without its group.
 #[tactic(auto, using(crate::specs::Laws::Written::put_both))]
 fn write_param(
     out: &mut Output,
@@ -32,7 +32,7 @@ fn write_param(
     write_val(out, &param.2)
 }
 
-/// Writes value types, one behind the other.
+/// Writes value types, one after the other.
 #[tactic(auto, using(std::proofs::lemmas::List::drop_more, crate::specs::Laws::Written::put_both))]
 pub fn write_vals(out: &mut Output, types: &[ValType]) -> Result<(), Refused>
     ensures { Printed vals_form (map val_view types.now) result out.old out.new }
@@ -43,7 +43,7 @@ pub fn write_vals(out: &mut Output, types: &[ValType]) -> Result<(), Refused>
     Ok(())
 }
 
-/// Writes parameters, one behind the other.
+/// Writes parameters, one after the other.
 #[tactic(auto, using(std::proofs::lemmas::List::drop_more, crate::specs::Laws::Written::put_both))]
 fn write_params(
     out: &mut Output,
@@ -57,7 +57,7 @@ fn write_params(
     Ok(())
 }
 
-/// Writes a parameter in a group of its own.
+/// Writes a parameter in a separate group.
 #[tactic(auto, using(crate::specs::Laws::Written::put_grouped))]
 fn write_alone(
     out: &mut Output,
@@ -71,7 +71,7 @@ fn write_alone(
     out.close()
 }
 
-/// Writes parameters, each in a group of its own.
+/// Writes parameters, each in a separate group.
 #[tactic(auto, using(std::proofs::lemmas::List::drop_more, crate::specs::Laws::Written::put_both))]
 fn write_each_alone(
     out: &mut Output,
@@ -86,7 +86,7 @@ fn write_each_alone(
     Ok(())
 }
 
-/// Whether no parameter has an identifier or a name.
+/// Returns whether no parameter has an identifier or a name.
 #[tactic(auto, using(std::proofs::lemmas::List::drop_more))]
 pub fn are_unlabelled(params: &[(Option<Id>, Option<NameAnnotation>, ValType)]) -> bool
     ensures { result ≡ none_labelled param_label (params_view params.now) }
@@ -99,7 +99,7 @@ pub fn are_unlabelled(params: &[(Option<Id>, Option<NameAnnotation>, ValType)]) 
     true
 }
 
-/// Writes parameters in groups: in one where none has a label, else each in its own.
+/// Writes parameters: in one group if no parameter has a label, otherwise each in a separate group.
 #[tactic(auto, using(crate::specs::Laws::Written::groups, crate::specs::Laws::Written::put_both))]
 fn write_param_groups(
     out: &mut Output,
@@ -120,7 +120,7 @@ fn write_param_groups(
     out.close()
 }
 
-/// Writes results in one group, or none where there is no result.
+/// Writes results in one group, or no group if there are no results.
 #[tactic(auto, using(crate::specs::Laws::Written::results_together, crate::specs::Laws::Written::put_both))]
 fn write_result_groups(out: &mut Output, types: &[ValType]) -> Result<(), Refused>
     ensures { Printed result_groups_form (map val_view types.now) result out.old out.new }
@@ -134,7 +134,7 @@ fn write_result_groups(out: &mut Output, types: &[ValType]) -> Result<(), Refuse
     out.close()
 }
 
-/// Writes a function type (Text Format, Types, "Composite Types"): its parameters, and then its
+/// Writes a function type (Text Format, Types, "Composite Types"): the parameters, then the
 /// results.
 #[tactic(auto, using(crate::specs::Laws::Written::function_split, crate::specs::Laws::Written::put_both))]
 pub(crate) fn write_function(out: &mut Output, function: &FunctionType) -> Result<(), Refused>

@@ -10,8 +10,8 @@ use crate::output::Output;
 use crate::traits::Print;
 use wat_tokens::Integer;
 
-/// An integer is written as it was read: with its sign, its `0x` and its underscores (Text Format,
-/// Values, "Integers").
+/// An integer is printed with the text that was read: its sign, its `0x` and its underscores stay
+/// (Text Format, Values, "Integers").
 impl Print for Integer<'_> {
     ghost View = { List ℕ };
 

@@ -16,7 +16,7 @@ use crate::output::Output;
 use crate::traits::Print;
 use wat_tokens::{Id, NameAnnotation};
 
-/// Writes an identifier, where there is one.
+/// Writes an identifier, if there is one.
 fn write_id(out: &mut Output, id: &Option<Id>) -> Result<(), Refused>
     ensures { Printed (option_form begins_id id_form) (option_view name_of id.now) result out.old
         out.new }
@@ -37,7 +37,7 @@ fn write_annotation(out: &mut Output, annotation: &NameAnnotation) -> Result<(),
     out.close()
 }
 
-/// Writes the annotation of a name, where there is one.
+/// Writes the annotation of a name, if there is one.
 fn write_name(out: &mut Output, name: &Option<NameAnnotation>) -> Result<(), Refused>
     ensures { Printed (option_form begins_name name_form)
         (option_view (λ a. a.name.now) name.now) result out.old out.new }
@@ -48,7 +48,7 @@ fn write_name(out: &mut Output, name: &Option<NameAnnotation>) -> Result<(), Ref
     }
 }
 
-/// Writes a label: an identifier and a name, as far as they are there.
+/// Writes a label: the identifier and the name, if present.
 #[tactic(auto, using(crate::specs::Laws::Written::put_both))]
 pub fn write_label(
     out: &mut Output,

@@ -10,23 +10,23 @@ ghost use Rattle.wat_print.specs.Text.{Page, printed_text, blank_page};
 ghost use Rattle.std.specs.Str.{IsUtf8};
 ghost use Rattle.wat_print.specs.Parts.{each};
 
-/// The text of tokens that can be written is cut into these tokens, and with the standard
-/// annotations known all of them are visible.
+/// The one-line text of well-formed tokens is cut into these tokens. If the standard annotations
+/// are known, all of them are visible.
 pub fn text_is_cut()
     ensures cut { (ts : List Tok) → WellFormed ts
         → (ps : List Placed) × IsCut (printed_text ts) ps × (tokens_of ps ≡ ts) }
     ensures visible { (ts : List Tok) → WellFormed ts → visible_tokens true ts ≡ ts }
 {}
 
-/// Tokens that can be written are cut again from each text in which they are laid out on lines.
+/// Each layout of well-formed tokens on lines is cut into these tokens.
 pub fn lines_are_cut()
     ensures { (ts : List Tok) (lines : Bool) (page : Page) → WellFormed ts
         → Writes ts (blank_page lines) page
         → (ps : List Placed) × IsCut page.bytes ps × (tokens_of ps ≡ ts) }
 {}
 
-/// Names in a text are UTF-8 and not empty, its integers are written as such, and its strings have
-/// bytes.
+/// In the tokens of a text, names are UTF-8 and not empty, integers have the syntax of integers,
+/// and the elements of strings are bytes.
 pub fn text_is_given()
     ensures { (x : List ℕ) (ps : List Placed) (known : Bool) → IsUtf8 x → IsCut x ps
         → each is_given (visible_tokens known (tokens_of ps)) ≡ true }

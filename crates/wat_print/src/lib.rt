@@ -1,9 +1,9 @@
-//! Values as text: tokens, and the types of the WebAssembly text format (WebAssembly Core
+//! Printing of tokens, and of the types of the WebAssembly text format (WebAssembly Core
 //! Specification, Text Format, "Types").
 //!
-//! [`print`] makes a text of a value whose type has [`Print`]. The text is cut into tokens that
-//! spell this value and no other, and [`read_text`](wat_tokens::whole_text::read_text) reads it
-//! again.
+//! [`print`] prints a value as a text, if its type has [`Print`]. The tokens of the text spell this
+//! value and no other. [`read_text`](wat_tokens::whole_text::read_text) reads the text as this
+//! value.
 #![tactic(auto)]
 
 pub mod define;

@@ -14,7 +14,7 @@ use crate::reference::write_ref;
 use crate::traits::Print;
 use wat_types::{Limits, MemoryType, TableType};
 
-/// Writes the word, where the flag is set.
+/// Writes the word if the flag is true.
 pub fn write_flag(out: &mut Output, word: &str, flag: bool) -> Result<(), Refused>
     ensures { Printed (flag_form word.now) flag result out.old out.new }
 {
@@ -24,8 +24,8 @@ pub fn write_flag(out: &mut Output, word: &str, flag: bool) -> Result<(), Refuse
     out.word(word)
 }
 
-/// Writes limits (Text Format, Types, "Limits"): `i64`, where addresses have 64 bits, and then the
-/// one or two numbers.
+/// Writes limits (Text Format, Types, "Limits"): `i64` if addresses have 64 bits, then the minimum,
+/// then the maximum if there is one.
 #[tactic(auto, using(crate::specs::Laws::Written::put_both))]
 fn write_limits(out: &mut Output, limits: &Limits) -> Result<(), Refused>
     ensures { Printed limits_form limits.now result out.old out.new }
@@ -38,8 +38,7 @@ fn write_limits(out: &mut Output, limits: &Limits) -> Result<(), Refused>
     }
 }
 
-/// Writes `( pagesize number )`, the number being 2 to the k, where a k is given. A k of 32 or more
-/// is refused with PageSize.
+/// Writes `( pagesize 2^k )` if an exponent k is given. A k of 32 or more is refused with PageSize.
 pub fn write_page_size(out: &mut Output, exponent: Option<u32>) -> Result<(), Refused>
     ensures { Printed page_form exponent result out.old out.new }
 {
@@ -55,8 +54,8 @@ pub fn write_page_size(out: &mut Output, exponent: Option<u32>) -> Result<(), Re
     }
 }
 
-/// Writes a memory type (Text Format, Types, "Memory Types"). One with pages of 2 to the k bytes is
-/// refused with PageSize where k is 32 or more.
+/// Writes a memory type (Text Format, Types, "Memory Types"). A memory type with pages of 2^k bytes
+/// is refused with PageSize if k is 32 or more.
 #[tactic(auto, using(crate::specs::Laws::Written::put_both))]
 pub fn write_memory_type(out: &mut Output, memory: &MemoryType) -> Result<(), Refused>
     ensures { Printed memory_form memory.now result out.old out.new }

@@ -1,4 +1,4 @@
-//! A text that is written token by token.
+//! The output: a text that is written token by token.
 
 ghost use Rattle.std.specs.Prelude.{◌≡◌, ◌≢◌, ◌∷◌, ◌++◌, ◌*◌, [], ◌<◌, ℕ, true, false};
 ghost use Rattle.std.specs.Prelude.{if◌then◌else◌, OnOk, IfErr, decimal, string_bytes};
@@ -21,34 +21,34 @@ use std::marker::Model;
 use wat_lexer::scan::is_idchar;
 use wat_lexer::string::hex_digit;
 
-/// How many groups and blocks at most a line is indented for. So a line has 100 spaces more than
-/// its tokens at most, and the text of deep nesting stays as long as its tokens, 100 times over.
+/// The maximum number of groups and blocks that a line is indented for. So a line begins with at
+/// most 100 spaces, and deep nesting makes the text at most about 100 times as long as its tokens.
 const MOST_STEPS: usize = 50;
 
-/// How a text is laid out.
+/// The layout of a text.
 #[derive(Clone, Copy, Debug, PartialEq, Eq, Hash)]
 pub enum Layout {
     /// On one line.
     Line,
-    /// On lines. Where a line is broken, the next begins with two spaces for each group and each
-    /// block of instructions that is open there, and for 50 at most.
+    /// On several lines. A line after a break begins with two spaces for each open group and each
+    /// open block of instructions, for 50 of them at most.
     Indented,
 }
 
-/// A text that is written, so far.
+/// The text that is written so far.
 ///
-/// Between two tokens stands one space, or a line break with spaces; neither behind `(` nor in
-/// front of `)`. Memory that is refused may leave the beginning of a token behind.
+/// Two tokens are separated by one space, or by a line break and spaces. There is neither after `(`
+/// nor before `)`. If an allocation fails, a prefix of a token may stay in the text.
 #[derive(Drop)]
 pub struct Output {
     text: String,
-    /// Whether no blank is wanted in front of the next token.
+    /// Whether the next token follows without a blank.
     tight: bool,
     /// Whether lines may be broken.
     lines: bool,
-    /// How many groups are open.
+    /// The number of open groups.
     depth: usize,
-    /// How many blocks of instructions are open.
+    /// The number of open blocks of instructions.
     blocks: usize,
 }
 
@@ -62,7 +62,7 @@ impl Model for Output {
 }
 
 impl Output {
-    /// A text without a token.
+    /// Returns the empty text.
     pub fn new(alloc: Global, layout: Layout) -> Output
         ensures { result ≡ blank_page (may_break layout) }
     {
@@ -78,15 +78,15 @@ impl Output {
         }
     }
 
-    /// The text.
+    /// Returns the text.
     pub fn into_text(self) -> String
         ensures { string_bytes result ≡ self.bytes }
     {
         self.text
     }
 
-    /// Breaks the line, where the layout has lines and a blank may stand; two spaces for each
-    /// group and each block that is open follow the break, for 50 at most.
+    /// Breaks the line if the layout has lines and a blank is allowed. Two spaces for each open
+    /// group and each open block follow the break, for 50 of them at most.
     pub fn line(&mut self) -> Result<(), Refused>
         ensures written { OnOk result ((n : ℕ) × (self.new ≡ broken n self.old)) }
         ensures refused { IfErr result (λ e. e ≡ Memory) }
@@ -101,28 +101,28 @@ impl Output {
         Ok(())
     }
 
-    /// The lines that follow are inside of one block more, until [`leave`](Output::leave).
+    /// Enters a block: the next lines are one step deeper, until [`leave`](Output::leave).
     pub fn enter(&mut self)
         ensures { self.new ≡ self.old }
     {
         self.blocks = self.blocks.saturating_add(1);
     }
 
-    /// The lines that follow are outside of the innermost block, where one is open.
+    /// Leaves the innermost block, if a block is open.
     pub fn leave(&mut self)
         ensures { self.new ≡ self.old }
     {
         self.blocks = self.blocks.saturating_sub(1);
     }
 
-    /// The lines that follow are outside of every block.
+    /// Leaves all blocks.
     pub fn leave_all(&mut self)
         ensures { self.new ≡ self.old }
     {
         self.blocks = 0;
     }
 
-    /// A space, where one is wanted in front of a token other than `)`.
+    /// Writes the space before a token other than `)`, if a space is needed.
     fn space(&mut self) -> Result<(), AllocError>
         ensures { OnOk result (self.new ≡ record self.old {
           bytes = self.old.bytes ++ (if self.old.tight then [] else 32 ∷ []);
@@ -168,7 +168,7 @@ impl Output {
         Ok(())
     }
 
-    /// Writes an integer by its text.
+    /// Writes an integer, given as its text.
     pub fn integer(&mut self, text: &str) -> Result<(), Refused>
         ensures written { OnOk result (self.new ≡ put self.old (Integer text.now ∷ [])) }
         ensures refused { IfErr result (λ e. e ≡ Memory) }
@@ -190,7 +190,7 @@ impl Output {
         Ok(())
     }
 
-    /// Writes a number in decimal digits, behind `-` where it is below 0.
+    /// Writes a number in decimal digits, after `-` if it is negative.
     pub fn signed(&mut self, value: i64) -> Result<(), Refused>
         ensures written { OnOk result (self.new ≡ put self.old (Integer (signed_decimal value) ∷
             [])) }
@@ -202,8 +202,8 @@ impl Output {
         Ok(())
     }
 
-    /// Writes a keyword that ends in a number, as `offset=8`: its front, and behind it the number
-    /// in decimal digits.
+    /// Writes a keyword that ends in a number, such as `offset=8`: the prefix `front`, then the
+    /// number in decimal digits.
     pub fn numbered(&mut self, front: &str, number: u64) -> Result<(), Refused>
         ensures written { OnOk result (self.new ≡ put self.old (Keyword (front.now ++ decimal
             number)
@@ -216,7 +216,7 @@ impl Output {
         Ok(())
     }
 
-    /// A string's content, and the closing quote. One that is UTF-8 is written by its characters.
+    /// Adds the content of a string, and the closing quote. UTF-8 content is added by characters.
     #[tactic(auto, using(crate::specs::Laws::Characters::no_text))]
     fn push_quoted(&mut self, bytes: &[u8]) -> Result<(), AllocError>
         ensures { OnOk result (self.new ≡ record self.old {
@@ -229,7 +229,7 @@ impl Output {
         }
     }
 
-    /// A text in a string, and the closing quote. Characters past ASCII stay as they are.
+    /// Adds a text in a string, and the closing quote. Non-ASCII characters stay as they are.
     fn push_characters(&mut self, text: &str) -> Result<(), AllocError>
         ensures { OnOk result (self.new ≡ record self.old {
           bytes = self.old.bytes ++ quoted text.now;
@@ -241,7 +241,7 @@ impl Output {
         self.push_quote()
     }
 
-    /// Bytes that aren't UTF-8 in a string, and the closing quote. Each one past ASCII is `\hh`.
+    /// Adds bytes that aren't UTF-8, and the closing quote. Each non-ASCII byte is added as `\hh`.
     #[tactic(auto, using(std::proofs::lemmas::List::drop_more))]
     fn push_bytes(&mut self, bytes: &[u8]) -> Result<(), AllocError>
         ensures { OnOk result (self.new ≡ record self.old {
@@ -254,7 +254,7 @@ impl Output {
         self.push_quote()
     }
 
-    /// The closing quote.
+    /// Adds the closing quote.
     fn push_quote(&mut self) -> Result<(), AllocError>
         ensures { OnOk result (self.new ≡ record self.old {
           bytes = self.old.bytes ++ 34 ∷ [];
@@ -264,7 +264,7 @@ impl Output {
         self.text.push_str(closing)
     }
 
-    /// A character of a text in a string.
+    /// Adds a character of a text in a string.
     #[tactic(auto, using(crate::specs::Laws::Characters::character_written))]
     fn push_character(&mut self, c: char) -> Result<(), AllocError>
         ensures { OnOk result (self.new ≡ record self.old {
@@ -277,7 +277,7 @@ impl Output {
         self.text.push(c)
     }
 
-    /// A byte in a string that isn't UTF-8. One of ASCII is written so in a text too.
+    /// Adds a byte of a string that isn't UTF-8. An ASCII byte is added as in a UTF-8 string.
     fn push_escaped(&mut self, byte: u8) -> Result<(), AllocError>
         ensures { OnOk result (self.new ≡ record self.old {
           bytes = self.old.bytes ++ escape false byte;
@@ -293,7 +293,7 @@ impl Output {
         Ok(())
     }
 
-    /// A name behind its mark.
+    /// Adds a name after its `$` or `@`.
     fn push_name(&mut self, name: &str) -> Result<(), AllocError>
         ensures { OnOk result (self.new ≡ record self.old {
           bytes = self.old.bytes ++ name_text name.now;
@@ -306,7 +306,7 @@ impl Output {
         self.push_characters(name)
     }
 
-    /// Writes an identifier, given without its `$`. One that is empty is refused.
+    /// Writes an identifier, given without its `$`. An empty identifier is refused.
     pub fn id(&mut self, name: &str) -> Result<(), Refused>
         ensures written { OnOk result (self.new ≡ put self.old (Id name.now ∷ [])) }
         ensures printable { OnOk result (is_name name.now ≡ true) }
@@ -322,7 +322,7 @@ impl Output {
         Ok(())
     }
 
-    /// Writes an annotation, given without its `@`, behind a `(`.
+    /// Writes an annotation after a `(`. Its name is given without the `@`.
     pub fn annotation(&mut self, name: &str) -> Result<(), Refused>
         ensures written { OnOk result (self.new ≡ put self.old (Annotation name.now ∷ [])) }
         ensures refused { IfErr result (λ e. e ≡ Memory) }
@@ -347,8 +347,8 @@ impl Output {
         Ok(())
     }
 
-    /// Writes a string. One that is UTF-8 keeps its characters past ASCII, and in any other each
-    /// byte past ASCII is `\hh`.
+    /// Writes a string. In a UTF-8 string, non-ASCII characters stay. In any other string, each
+    /// non-ASCII byte is written as `\hh`.
     pub fn string(&mut self, content: &[u8]) -> Result<(), Refused>
         ensures written { OnOk result (self.new ≡ put self.old (Text content.now ∷ [])) }
         ensures refused { IfErr result (λ e. e ≡ Memory) }
@@ -361,7 +361,7 @@ impl Output {
     }
 }
 
-/// Whether all bytes are idchars.
+/// Returns whether all bytes are idchars.
 #[tactic(auto, using(std::proofs::lemmas::List::drop_more))]
 fn are_idchars(bytes: &[u8]) -> bool
     ensures { result ≡ all_are is_idchar bytes.now }
@@ -374,7 +374,7 @@ fn are_idchars(bytes: &[u8]) -> bool
     true
 }
 
-/// Puts two spaces behind the text, so many times.
+/// Appends two spaces to the text, `times` times.
 fn push_blanks(text: &mut String, times: usize) -> Result<(), AllocError>
     ensures { OnOk result (string_bytes text.new ≡ string_bytes text.old ++ blanks (2 * times)) }
 {

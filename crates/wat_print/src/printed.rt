@@ -1,4 +1,4 @@
-//! How a text is made of a value.
+//! How values are printed as texts.
 
 ghost use Rattle.std.specs.Prelude.{◌≡◌, ◌≢◌, true, IfOk, IfErr, string_bytes};
 ghost use Rattle.wat_tokens.specs.Whole.{TextSpells};
@@ -12,16 +12,17 @@ use crate::output::{Layout, Output};
 use crate::traits::Print;
 use std::alloc::Global;
 
-/// The text of the value, laid out as said.
+/// Returns the text of the value in the layout.
 ///
-/// The text is cut into tokens that spell the value, so that
-/// [`read_text`](wat_tokens::whole_text::read_text) with the standard annotations known reads it
-/// as this value, or memory is refused. A value that no text spells is refused with the first
-/// reason that is met. Memory that is refused is answered by Memory.
+/// The tokens of the text spell the value. So [`read_text`](wat_tokens::whole_text::read_text) with
+/// the standard annotations known reads the text as this value, or runs out of memory.
+///
+/// A value that no text spells is refused with the first reason that is met. If memory runs out,
+/// the error is Memory.
 pub fn print<T: Print>(alloc: Global, value: &T, layout: Layout) -> Result<String, Refused>
     ensures reads_back { IfOk result (λ s. TextSpells true T.grammar (string_bytes s)
         (T.view value.now)) }
-    // On one line, it is the text of tokens that what contracts see of the value decides.
+    // On one line, the text is the text of the tokens that `spell` has for the value's view.
     ensures line { IfOk result (λ s. layout ≡ Line
         → string_bytes s ≡ printed_text (T.printing.spell (T.view value.now))) }
     ensures refused { IfErr result (λ e. e ≢ Memory → NoneSpells T.grammar (T.view value.now)) }

@@ -57,7 +57,7 @@ pub fn write_heap(out: &mut Output, heap: &HeapType) -> Result<(), Refused>
     }
 }
 
-/// The shorthand for a nullable reference to the heap type.
+/// Returns the shorthand for a nullable reference to the heap type.
 fn shorthand_of(ty: AbstractHeapType) -> &'static str
     ensures { result.now ≡ short_word ty }
 {
@@ -79,7 +79,7 @@ fn shorthand_of(ty: AbstractHeapType) -> &'static str
     }
 }
 
-/// `( ref null? HeapType )`
+/// Writes `( ref null? HeapType )`.
 #[tactic(auto, using(crate::specs::Laws::Written::put_both))]
 fn write_long(out: &mut Output, reference: &RefType) -> Result<(), Refused>
     ensures { Printed long_form (reference.now.nullable, heap_view reference.now.heap) result
@@ -94,7 +94,8 @@ fn write_long(out: &mut Output, reference: &RefType) -> Result<(), Refused>
     out.close()
 }
 
-/// Writes a reference type: by its shorthand, where it has one and isn't shared.
+/// Writes a reference type: the shorthand if it is nullable and its heap type is abstract and not
+/// shared, otherwise `( ref null? HeapType )`.
 pub fn write_ref(out: &mut Output, reference: &RefType) -> Result<(), Refused>
     ensures { Printed ref_form (ref_view reference.now) result out.old out.new }
 {

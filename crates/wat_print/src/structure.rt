@@ -17,7 +17,7 @@ use crate::storage::write_field;
 use crate::traits::Print;
 use wat_types::{StructField, StructType};
 
-/// Writes a field, without its group.
+/// Writes a field without its group.
 #[tactic(auto, using(crate::specs::Laws::Written::put_both))]
 fn write_member(out: &mut Output, field: &StructField) -> Result<(), Refused>
     ensures { Printed member_form (member_view field.now) result out.old out.new }
@@ -26,7 +26,7 @@ fn write_member(out: &mut Output, field: &StructField) -> Result<(), Refused>
     write_field(out, field.mutable, &field.ty)
 }
 
-/// Writes fields, one behind the other.
+/// Writes fields, one after the other.
 #[tactic(auto, using(std::proofs::lemmas::List::drop_more, crate::specs::Laws::Written::put_both))]
 fn write_members(out: &mut Output, fields: &[StructField]) -> Result<(), Refused>
     ensures { Printed (many_form more member_form) (members_view fields.now) result out.old
@@ -38,7 +38,7 @@ fn write_members(out: &mut Output, fields: &[StructField]) -> Result<(), Refused
     Ok(())
 }
 
-/// Writes a field in a group of its own.
+/// Writes a field in a separate group.
 fn write_alone(out: &mut Output, field: &StructField) -> Result<(), Refused>
     ensures { Printed member_alone_form (member_view field.now) result out.old out.new }
 {
@@ -48,7 +48,7 @@ fn write_alone(out: &mut Output, field: &StructField) -> Result<(), Refused>
     out.close()
 }
 
-/// Writes fields, each in a group of its own.
+/// Writes fields, each in a separate group.
 #[tactic(auto, using(std::proofs::lemmas::List::drop_more, crate::specs::Laws::Written::put_both))]
 fn write_each_alone(out: &mut Output, fields: &[StructField]) -> Result<(), Refused>
     ensures { Printed (many_form more member_alone_form) (members_view fields.now) result out.old
@@ -60,7 +60,7 @@ fn write_each_alone(out: &mut Output, fields: &[StructField]) -> Result<(), Refu
     Ok(())
 }
 
-/// Whether no field has an identifier or a name.
+/// Returns whether no field has an identifier or a name.
 #[tactic(auto, using(std::proofs::lemmas::List::drop_more))]
 fn are_unlabelled(fields: &[StructField]) -> bool
     ensures { result ≡ none_labelled member_label (members_view fields.now) }
@@ -73,7 +73,7 @@ fn are_unlabelled(fields: &[StructField]) -> bool
     true
 }
 
-/// Writes fields in groups: in one where none has a label, else each in its own.
+/// Writes fields: in one group if no field has a label, otherwise each in a separate group.
 #[tactic(auto, using(crate::specs::Laws::Written::groups, crate::specs::Laws::Written::put_both))]
 fn write_fields(out: &mut Output, fields: &[StructField]) -> Result<(), Refused>
     ensures { Printed struct_form (members_view fields.now) result out.old out.new }

@@ -1,4 +1,4 @@
--- Instructions in groups that are written.
+-- Written groups of instructions.
 use Rattle.std.specs.Prelude.{◌≡◌, ◌==◌, ℕ, Bool, true, false, ◌&&◌, List, [], ◌∷◌, ◌++◌, flat_map}
 use Rattle.std.specs.Prelude.{map, length, Option, Some, None, option_map, is_some}
 use Rattle.std.proofs.Common.{refl, ap, subst, sym, ◌∙◌, append-nil, get_or, arith}
@@ -37,12 +37,12 @@ group_written i gs a b c d e f g h k =
     put_parens (spell_instruction i ++ spell_groups gs) a b d e f
     (put_then (spell_instruction i) (spell_groups gs) b c d g h) k
 
--- each in a group of its own
+-- each instruction in a separate group
 pub own_written : (is : List Instr) (a b : Page) → b ≡ put a (flat_map spell_own is)
     → b ≡ put a (spell_groups (own_groups is))
 own_written is a b e = e ∙ ap (λ (l : List Tok). put a l) (own_spelled is)
 
--- ---- what can be written
+-- ---- instructions that can be written
 
 pub part_printable : (xs : List Instr) (i : Instr) (ys : List Instr)
     → each printable_instruction xs ≡ true
@@ -84,7 +84,7 @@ unprintable_behind xs i ys e =
     unprintable_back xs (i ∷ ys)
     (and_right (printable_instruction i) (each printable_instruction ys) e)
 
--- ---- of values that are seen as instructions
+-- ---- values that are viewed as instructions
 
 module _ {X : Type 0} (v : X → Instr) where
   pub catch_seen : (h : Instr) (xs : List X) (x : X) → (length xs == 0) ≡ false
@@ -99,7 +99,7 @@ module _ {X : Type 0} (v : X → Instr) where
   seen_last all here others last e s =
       ap (map v) (sym e ∙ s) ∙ map-append v others (last ∷ [])
 
-  -- some, then one, and then others
+  -- the list is `before`, then x, then `behind`
   module _ (all before : List X) (x : X) (behind : List X) (e : all ≡ before ++ x ∷ behind) where
     seen_parts : map v all ≡ map v before ++ v x ∷ map v behind
     seen_parts = ap (map v) e ∙ map-append v before (x ∷ behind)
@@ -134,7 +134,7 @@ module _ {X : Type 0} (v : X → Instr) where
     behind_unprintable b f =
         unprintable_parts b (unprintable_behind (map v before) (v x) (map v behind) f)
 
--- the group of the first instruction that keeps apart, and those behind it
+-- the group of the first instruction that keeps apart, and the groups after it
 pub apart_written : (i : Instr) (bs ds : List Instr) (o : Option Groups) (a b c d e f : Page)
     → o ≡ Some (Group i (own_groups bs) (own_groups ds)) → b ≡ put a (LParen ∷ [])
     → c ≡ put b (spell_instruction i) → d ≡ put c (flat_map spell_own bs)
@@ -147,7 +147,7 @@ apart_written i bs ds o a b c d e f is g h k l m =
     (own_written ds e f m)
     ∙ ap (λ (p : Option Groups). put a (spell_option spell_groups p)) (sym is)
 
--- groups of their own, behind the instruction
+-- separate groups after the instruction
 pub behind_written : (h : Instr) (is : List Instr) (a b : Page) → catch_first h is ≡ false
     → b ≡ put a (flat_map spell_own is) → b ≡ put a (spell_option spell_groups (groups_behind h is))
 behind_written h is a b e w =
@@ -223,7 +223,7 @@ empty_unprintable e s =
     (and_right (each printable_instruction e.instrs) _
     (ap (λ (l : List Instr). is_some (group_from [] l)) s))
 
--- no hints are left where there are none
+-- the view of an empty list has no hints
 module _ {X : Type 0} (v : X → ℕ × ℕ) where
   none_by : (hs : List X) → (length hs == 0) ≡ true → no_hints (map v hs) ≡ true
   none_by [] e = refl

@@ -1,4 +1,4 @@
--- Instructions and hints that are written in turn.
+-- Instructions and hints that are written in order.
 use Rattle.std.specs.Prelude.{◌≡◌, ℕ, zero, suc, ◌+◌, ◌<◌, true, false, List, [], ◌∷◌, ◌++◌}
 use Rattle.std.specs.Prelude.{flat_map, map, length, drop, Option, Some, None, option_map}
 use Rattle.std.proofs.Common.{refl, ap, subst, sym, ◌∙◌, append_assoc, append-nil, get_or, arith}
@@ -20,8 +20,8 @@ use Rattle.wat_print_instr.specs.Laws.Expression.{next_step}
 -- a line break, or nothing
 pub ruleset line_or_nothing = (puts_line, puts_put)
 
--- From p to q the steps before the index b were written, and what is left of the instructions and
--- of the hints gives those behind them.
+-- The steps before the index b were written from p to q. The remaining instructions and hints give
+-- the steps from b on.
 pub record Walked (is : List Instr) (hs : List (ℕ × ℕ)) (b : ℕ) (left : List (ℕ × ℕ)) (p q : Page)
     : Type 0 where
   pub done : List HintedInstr
@@ -42,7 +42,7 @@ walk_begins is hs p = record {
   printable = refl;
 }
 
--- an instruction more
+-- one more instruction
 map_twice : (x : HintedInstr) (done : List HintedInstr) (o : Option (List HintedInstr))
     → option_map (λ xs. done ++ xs) (option_map (λ xs. x ∷ xs) o)
     ≡ option_map (λ xs. (done ++ x ∷ []) ++ xs) o
@@ -70,14 +70,14 @@ walk_goes is hs b left i p q s e w v f =
       printable = each_both printable_step w.done (x ∷ []) w.printable (rw f refl);
     }
 
--- ---- where it ends
+-- ---- the end of the walk
 
 all_steps : (is : List Instr) (hs : List (ℕ × ℕ)) (b : ℕ) (p q : Page) (e : drop b is ≡ [])
     (w : Walked is hs b [] p q) → steps_from 0 is hs ≡ Some (w.done ++ [])
 all_steps is hs b p q e w =
     w.goes ∙ ap (λ (l : List Instr). option_map (λ xs. w.done ++ xs) (steps_from b l [])) e
 
--- what was found is all, and it can be written
+-- no instruction and no hint is left, so the expression can be written
 pub walk_printable : (is : List Instr) (hs : List (ℕ × ℕ)) (b : ℕ) (p q : Page) → drop b is ≡ []
     → Walked is hs b [] p q
     → printable_expression (record { instrs = is; hints = hs }) ≡ true
@@ -96,7 +96,7 @@ walk_written is hs b p q e w =
     (subst (λ (l : List HintedInstr). Writes (flat_map spell_step l) p q) (sym (append-nil w.done))
     w.written)
 
--- a hint is left
+-- a hint is left, so the expression can't be written
 pub walk_left : (is : List Instr) (hs : List (ℕ × ℕ)) (b : ℕ) (h : ℕ × ℕ) (left : List (ℕ × ℕ))
     (p q : Page) → drop b is ≡ [] → Walked is hs b (h ∷ left) p q
     → printable_expression (record { instrs = is; hints = hs }) ≡ false
@@ -119,7 +119,7 @@ not_passed : (done : List HintedInstr) (x : HintedInstr) (o : Option (List Hinte
 not_passed done x (Some xs) f = not_all done x xs f
 not_passed done x None f = refl
 
--- one of the steps can't be written
+-- a step can't be written, so the expression can't be written
 pub walk_stops : (is : List Instr) (hs : List (ℕ × ℕ)) (b : ℕ) (left : List (ℕ × ℕ)) (i : Instr)
     (p q : Page) → drop b is ≡ i ∷ drop (b + 1) is → Walked is hs b left p q
     → printable_step (step_of (hint_for b left) i) ≡ false
@@ -133,7 +133,7 @@ walk_stops is hs b left i p q e w f =
     (not_passed w.done (step_of (hint_for b left) i)
     (steps_from (b + 1) (drop (b + 1) is) (hints_after b left)) f)
 
--- the instruction at an index, and those behind it
+-- the instruction at an index, and the instructions after it
 pub drop_step : {X A : Type 0} (v : X → A) (xs : List X) (i : ℕ) (x : X) → i < length xs
     → x ≡ get_or xs i x → drop i (map v xs) ≡ v x ∷ drop (i + 1) (map v xs)
 drop_step v [] i x lt s = absurd (omega (arith, lt))

@@ -1,4 +1,4 @@
--- How accesses to memories, and orderings, are written.
+-- How memory accesses and orderings are written.
 use Rattle.std.specs.Prelude.{ℕ, Bool, true, false, not, ◌&&◌, ◌||◌, ◌==◌, List, [], ◌∷◌, ◌++◌}
 use Rattle.std.specs.Prelude.{codes, Option, Some, None, is_none}
 use Rattle.std.specs.Int.{is_power_of_two}
@@ -27,12 +27,12 @@ abbrev pub printable_target : TargetTy → Bool
 printable_target (memory i) = printable_index i
 printable_target (array i) = printable_index i
 
--- a word that ends in the number; nothing, where the number is meant without it
+-- a word that ends in the number n, or nothing if the text omits n
 abbrev pub spell_unless : Bool → List ℕ → ℕ → List Tok
 spell_unless true front n = []
 spell_unless false front n = numbered front n ∷ []
 
--- the offset unless it is 0, and the alignment unless it is the default a
+-- the offset unless the offset is 0, and the alignment unless the alignment is the default a
 abbrev pub spell_fields : ℕ → MemArgTy → List Tok
 spell_fields a m =
     spell_unless (m.offset == 0) (codes "offset=") m.offset
@@ -42,16 +42,16 @@ spell_fields a m =
 abbrev pub spell_access : ℕ → MemArgTy → List Tok
 spell_access a m = spell_target m.target ++ spell_fields a m
 
--- the default alignment a, or a power of two of 64 bits
+-- n is the default alignment a, or a power of two of 64 bits
 abbrev pub printable_alignment : ℕ → ℕ → Bool
 printable_alignment a n = (n == a) || (is_power_of_two n && is_u64 n)
 
--- an access but for its ordering
+-- an access apart from its ordering
 abbrev pub printable_place : ℕ → MemArgTy → Bool
 printable_place a m =
     printable_target m.target && (is_u64 m.offset && printable_alignment a m.align)
 
--- without an ordering
+-- an access without an ordering
 abbrev pub printable_access : ℕ → MemArgTy → Bool
 printable_access a m = printable_place a m && is_none m.ordering
 
@@ -72,7 +72,7 @@ ordering_in (Rmw o) = o
 abbrev pub spell_atomic : ℕ → MemArgTy → List Tok
 spell_atomic a m = spell_access a m ++ spell_option (λ o. spell_ordering (ordering_in o)) m.ordering
 
--- none, or one as of a read-modify-write instruction or of another
+-- no ordering; or `Rmw` for a read-modify-write instruction, and `Op` for any other instruction
 abbrev pub printable_ordering : Bool → Option MemArgOrdering → Bool
 printable_ordering rmw None = true
 printable_ordering rmw (Some (Op o)) = not rmw
@@ -81,7 +81,7 @@ printable_ordering rmw (Some (Rmw o)) = rmw
 abbrev pub printable_atomic : ℕ → Bool → MemArgTy → Bool
 printable_atomic a rmw m = printable_place a m && printable_ordering rmw m.ordering
 
--- an ordering, and what it is in front of
+-- an ordering, and the operand after it
 abbrev pub spell_ordered : {A : Type 0} → (A → List Tok) → Ordering × A → List Tok
 spell_ordered spell v = spell_ordering v.0 ++ spell v.1
 

@@ -1,4 +1,4 @@
--- How blocks, calls, the types of a `select`, casts, and what is caught and handled are written.
+-- How blocks, calls, the types of a `select`, casts, catch clauses and handlers are written.
 use Rattle.std.specs.Prelude.{Bool, true, ◌&&◌, List, [], ◌∷◌, ◌++◌, codes, flat_map, Option}
 use Rattle.wat_lexer.specs.Token.{Tok, Keyword}
 use Rattle.wat_tokens.specs.Index.{Idx}
@@ -29,7 +29,7 @@ spell_block b = spell_label b.label ++ spell_use b.ty
 abbrev pub printable_block : BlockTy → Bool
 printable_block b = printable_label b.label && printable_unnamed_use b.ty
 
--- the table unless it is 0, and the type
+-- the table unless the table is 0, and the type
 abbrev pub spell_call : CallTy → List Tok
 spell_call c = spell_index_or_0 c.table ++ spell_use c.ty
 
@@ -50,7 +50,7 @@ printable_select ts = if_some (each printable_val) ts
 
 -- ---- casts
 
--- the label, and the types from which and to which
+-- the label, the type to cast from, and the type to cast to
 abbrev pub spell_branch : BranchTy → List Tok
 spell_branch b = spell_index b.label ++ (spell_ref b.from_type ++ spell_ref b.to_type)
 
@@ -58,7 +58,7 @@ abbrev pub printable_branch : BranchTy → Bool
 printable_branch b =
     printable_index b.label && (printable_ref b.from_type && printable_ref b.to_type)
 
--- ---- what a try_table catches
+-- ---- the catch clauses of a try_table
 
 abbrev pub spell_catch_kind : CatchKind Idx → List Tok
 spell_catch_kind (Catch i) = Keyword (codes "catch") ∷ spell_index i

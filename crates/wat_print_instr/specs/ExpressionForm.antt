@@ -1,4 +1,4 @@
--- How expressions are written: their instructions, each behind its hint where it has one.
+-- How expressions are written: their instructions, each after its hint if there is one.
 use Rattle.std.specs.Prelude.{ℕ, ◌+◌, Bool, ◌&&◌, ◌==◌, nat_lt, if◌then◌else◌, List, [], ◌∷◌, ◌++◌}
 use Rattle.std.specs.Prelude.{flat_map, Option, Some, None, option_map}
 use Rattle.wat_lexer.specs.Token.{Tok, String}
@@ -9,7 +9,7 @@ use Rattle.wat_expr.specs.Items.{is_branch, hint_name}
 use Rattle.wat_print.specs.Parts.{spell_option, if_some, each}
 use Rattle.wat_print_instr.specs.InstructionForm.{passes, spell_instruction, printable_instruction}
 
--- an instruction, and the hint that stands before it
+-- an instruction, and the hint before it
 pub record HintedInstr : Type 0 where
   pub hint : Option ℕ
   pub instr : Instr
@@ -31,8 +31,8 @@ spell_step x = spell_option spell_hint x.hint ++ spell_instruction x.instr
 abbrev pub printable_step : HintedInstr → Bool
 printable_step x = if_some (printable_hint x.instr) x.hint && printable_instruction x.instr
 
--- the instructions from the index b on, each with its hint; None, where a hint has none of their
--- indices, or a lower one than a hint before it
+-- The instructions from the index b on, each with its hint. None unless the indices of the hints
+-- increase, and each is the index of one of these instructions.
 abbrev pub steps_from : ℕ → List Instr → List (ℕ × ℕ) → Option (List HintedInstr)
 steps_from b [] [] = Some []
 steps_from b [] (h ∷ hs) = None
@@ -47,12 +47,12 @@ spell_expression e = spell_option (flat_map spell_step) (steps_from 0 e.instrs e
 abbrev pub printable_expression : Expr → Bool
 printable_expression e = passes (each printable_step) (steps_from 0 e.instrs e.hints)
 
--- the hint of the instruction at the index b, where the first of the hints is its
+-- the hint of the instruction at the index b, if the first hint has the index b
 abbrev pub hint_for : ℕ → List (ℕ × ℕ) → Option ℕ
 hint_for b [] = None
 hint_for b (h ∷ hs) = if h.0 == b then Some h.1 else None
 
--- the hints of those behind it
+-- the hints of the instructions after the index b
 abbrev pub hints_after : ℕ → List (ℕ × ℕ) → List (ℕ × ℕ)
 hints_after b [] = []
 hints_after b (h ∷ hs) = if h.0 == b then hs else h ∷ hs

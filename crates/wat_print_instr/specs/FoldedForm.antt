@@ -1,5 +1,5 @@
--- How folded instructions are written: the last instruction in front, and the others in groups
--- behind it.
+-- How folded instructions are written: the last instruction first, and the others in groups after
+-- it.
 use Rattle.std.specs.Prelude.{ℕ, Bool, true, false, not, ◌&&◌, if◌then◌else◌, List, [], ◌∷◌, ◌++◌}
 use Rattle.std.specs.Prelude.{Option, Some, None, option_map, is_some}
 use Rattle.wat_lexer.specs.Token.{Tok}
@@ -15,59 +15,60 @@ use Rattle.wat_expr.specs.Folded.{Groups, NoGroup, Group}
 use Rattle.wat_print.specs.Parts.{spell_option, each}
 use Rattle.wat_print_instr.specs.InstructionForm.{spell_instruction, printable_instruction}
 
--- ---- what a `try_table` takes for its own
+-- ---- the groups that a `try_table` takes as catch clauses
 
--- `try_table`: the groups directly behind it may be those of what it catches
+-- `try_table`: a group directly after the operand may be a catch clause
 abbrev pub takes_catches : Op → Bool
 takes_catches ops.try_table = true
 takes_catches _ = false
 
--- `catch` and `catch_all`: directly behind a `try_table` their group isn't one of an instruction
+-- `catch` and `catch_all`: directly after a `try_table`, the group is read as a catch clause
 abbrev pub is_catch : Op → Bool
 is_catch (ops.Indexed indexed.catch) = true
 is_catch (ops.Scalar scalar.catch_all) = true
 is_catch _ = false
 
--- the instruction of its row
+-- the `Op` of the row of i
 abbrev pub op_of : Instr → Op
 op_of i = op_of_row i.row
 
--- its group can stand between a `try_table` and a `catch`
+-- the group of the instruction can separate a `try_table` from a `catch`
 abbrev pub keeps_apart : Instr → Bool
 keeps_apart i = not (takes_catches (op_of i)) && not (is_catch (op_of i))
 
 -- ---- which groups are written
 
--- each instruction in a group of its own
+-- each instruction in a separate group
 abbrev pub own_groups : List Instr → Groups
 own_groups [] = NoGroup
 own_groups (i ∷ is) = Group i NoGroup (own_groups is)
 
--- The first instruction that keeps apart, in a group that has those before it in groups of their
--- own, and then those behind it in groups of their own. None, if there is none. These were before
--- the first of the list.
+-- The group of the first instruction that keeps apart, and then the groups of the instructions
+-- after it. The group contains the groups of the instructions before it. None if no instruction
+-- keeps apart. The first argument lists the instructions before the list.
 abbrev pub first_apart : List Instr → List Instr → Option Groups
 first_apart before [] = None
 first_apart before (i ∷ is) =
     if keeps_apart i then Some (Group i (own_groups before) (own_groups is))
     else first_apart (before ++ i ∷ []) is
 
--- a `catch` would be the first behind a `try_table`
+-- the first group after a `try_table` would be a `catch` or `catch_all`
 abbrev pub catch_first : Instr → List Instr → Bool
 catch_first h [] = false
 catch_first h (i ∷ is) = takes_catches (op_of h) && is_catch (op_of i)
 
--- the groups behind an instruction
+-- the groups after the instruction h
 abbrev pub groups_behind : Instr → List Instr → Option Groups
 groups_behind h is = if catch_first h is then first_apart [] is else Some (own_groups is)
 
--- the last instruction's group, with the others in it; these were before the first of the list
+-- The group of the last instruction, with the groups of the others in it. The first argument lists
+-- the instructions before the list.
 abbrev pub group_from : List Instr → List Instr → Option Groups
 group_from before [] = None
 group_from before (i ∷ []) = option_map (λ gs. Group i gs NoGroup) (groups_behind i before)
 group_from before (i ∷ j ∷ is) = group_from (before ++ i ∷ []) (j ∷ is)
 
--- ---- how they are written
+-- ---- how groups are written
 
 -- ( i )
 abbrev pub spell_own : Instr → List Tok
@@ -85,7 +86,7 @@ abbrev pub no_hints : List (ℕ × ℕ) → Bool
 no_hints [] = true
 no_hints (h ∷ hs) = false
 
--- no hints; each instruction can be written, and there is a group for them
+-- no hints; each instruction can be written, and some group has the instructions
 abbrev pub printable_folded : Expr → Bool
 printable_folded e =
     no_hints e.hints && (each printable_instruction e.instrs && is_some (group_from [] e.instrs))

@@ -1,4 +1,4 @@
--- How instructions are written: a word, and the operand.
+-- How instructions are written: a word, and an operand.
 use Rattle.std.specs.Prelude.{ℕ, ℤ, Bool, true, false, ◌&&◌, ◌==◌, List, ◌∷◌, Option, Some, None}
 use Rattle.wat_lexer.specs.Token.{Tok, Keyword}
 use Rattle.wat_tokens.specs.Index.{Idx}
@@ -44,7 +44,7 @@ use Rattle.wat_print_instr.specs.Printings.{fence_printing, number_printing, not
 use Rattle.wat_operands.specs.Tables.{index_or_0, index_pair}
 use Rattle.wat_tokens.specs.Index.{index}
 
--- ---- what an operand is of
+-- ---- the value in an operand
 
 abbrev pub found_nothing : Operand → Option (Unit {0})
 found_nothing nothing = Some tt
@@ -148,24 +148,24 @@ found_thrown _ = None
 
 -- ---- how an operand is written
 
--- there is a value, and it passes the test
+-- a value that passes the test
 abbrev pub passes : {A : Type 0} → (A → Bool) → Option A → Bool
 passes test (Some v) = test v
 passes test None = false
 
--- the tokens that are written of an operand, and whether it can be written
+-- the tokens that are written for an operand, and whether the operand can be written
 pub record OperandForm : Type 0 where
   pub spell : Operand → List Tok
   pub printable : Operand → Bool
 
--- as what `from` finds in it is printed
+-- an operand is written as the value that `from` finds in the operand
 abbrev pub form : {A : Type 0} {g : Production A} → (Operand → Option A) → Printing g → OperandForm
 form from p = record {
   spell = λ o. spell_option p.spell (from o);
   printable = λ o. passes p.printable (from o);
 }
 
--- behind the instruction's word
+-- the operand after the word of the instruction
 abbrev pub operand_form : Op → OperandForm
 operand_form (ops.Block op) = form found_block block_printing
 operand_form (ops.Label op) = form found_label end_label_printing
@@ -225,13 +225,13 @@ operand_form ops.br_on_cast_desc_eq_fail = form found_cast branch_printing
 
 -- ---- instructions
 
--- the row's word, and the operand
+-- the word of the row, and the operand
 abbrev pub spell_instruction : Instr → List Tok
 spell_instruction i =
     Keyword (op_word (op_of_row i.row))
     ∷ (operand_form (op_of_row i.row)).spell i.operand
 
--- there is such a row, and the operand is one of its instruction
+-- the row exists, and its instruction can have the operand
 abbrev pub printable_instruction : Instr → Bool
 printable_instruction i =
     (op_row (op_of_row i.row) == i.row)

@@ -1,4 +1,4 @@
--- How numbers with a sign, and words that end in a number, are written.
+-- How signed numbers, and words that end in a number, are written.
 use Rattle.std.specs.Prelude.{◌≡◌, ℕ, ℤ, pos, negsuc, ◌*◌, ◌^◌, ◌-◌, ◌≤◌, Bool, ◌&&◌, ◌==◌, nat_lt}
 use Rattle.std.specs.Prelude.{List, [], ◌∷◌, ◌++◌, length, decimal}
 use Rattle.std.specs.Fmt.{signed_decimal}
@@ -8,18 +8,18 @@ use Rattle.wat_print.specs.Parts.{each}
 abbrev pub spell_signed : ℤ → List Tok
 spell_signed z = Integer (signed_decimal z) ∷ []
 
--- a width in bits, of which twice the half is the whole
+-- a width from 1 to 64 bits: twice 2^(bits - 1) is 2^bits
 pub record Halves (bits : ℕ) : Type 0 where
   pub whole : 2 ^ bits ≡ 2 * 2 ^ (bits - 1)
   pub some : 1 ≤ 2 ^ (bits - 1)
   pub fits : 2 ^ bits ≤ 2 ^ 64
 
--- of so many bits, with a sign
+-- a signed number of this width
 abbrev pub is_signed : ℕ → ℤ → Bool
 is_signed bits (pos n) = nat_lt n (2 ^ (bits - 1))
 is_signed bits (negsuc n) = nat_lt n (2 ^ (bits - 1))
 
--- of so many bits, without one
+-- an unsigned number of this width
 abbrev pub is_unsigned : ℕ → ℕ → Bool
 is_unsigned bits n = nat_lt n (2 ^ bits)
 
@@ -27,6 +27,6 @@ is_unsigned bits n = nat_lt n (2 ^ bits)
 abbrev pub numbered : List ℕ → ℕ → Tok
 numbered front n = Keyword (front ++ decimal n)
 
--- so many values that pass the test
+-- n values that pass the test
 abbrev pub printable_number_of : {A : Type 0} → ℕ → (A → Bool) → List A → Bool
 printable_number_of n printable vs = (length vs == n) && each printable vs

@@ -1,4 +1,4 @@
--- How indices, pairs of them, and tables of branches are written.
+-- How indices, pairs of indices, and branch tables are written.
 use Rattle.std.specs.Prelude.{ℕ, zero, Bool, true, false, ◌&&◌, if◌then◌else◌, List, [], ◌++◌}
 use Rattle.std.specs.Prelude.{flat_map}
 use Rattle.wat_lexer.specs.Token.{Tok}
@@ -14,7 +14,7 @@ abbrev pub is_index_0 : Idx → Bool
 is_index_0 (number zero) = true
 is_index_0 _ = false
 
--- nothing, where 0 is meant
+-- nothing for index 0
 abbrev pub spell_index_or_0 : Idx → List Tok
 spell_index_or_0 i = if is_index_0 i then [] else spell_index i
 
@@ -24,11 +24,11 @@ spell_pair p = spell_index p.0 ++ spell_index p.1
 abbrev pub printable_pair : Idx × Idx → Bool
 printable_pair p = printable_index p.0 && printable_index p.1
 
--- the target, unless it is 0, and the segment
+-- the target unless the target is 0, and the segment
 abbrev pub spell_init : Idx × Idx → List Tok
 spell_init p = spell_index_or_0 p.0 ++ spell_index p.1
 
--- nothing, where both are 0
+-- nothing if both are 0
 abbrev pub spell_copy : Idx × Idx → List Tok
 spell_copy p = if is_index_0 p.0 && is_index_0 p.1 then [] else spell_pair p
 
@@ -39,7 +39,7 @@ spell_sized p = spell_index p.0 ++ spell_number p.1
 abbrev pub printable_sized : Idx × ℕ → Bool
 printable_sized p = printable_index p.0 && is_unsigned 32 p.1
 
--- the labels, and behind them the default
+-- the labels, and the default after them
 abbrev pub spell_br_table : BrTableTy → List Tok
 spell_br_table b = flat_map spell_index b.labels ++ spell_index b.default
 

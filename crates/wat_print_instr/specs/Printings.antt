@@ -1,4 +1,4 @@
--- How the values of each operand are printed.
+-- The printings of operands.
 use Rattle.std.specs.Prelude.{ℕ, ◌^◌, ◌≤◌, Bool, true, [], refl, false}
 use Rattle.std.proofs.Common.{lit≤}
 use Rattle.wat_tokens.specs.Floats.{none}
@@ -204,7 +204,7 @@ abbrev pub branch_printing : Printing cast_branch
 branch_printing =
     printing_of spell_branch printable_branch branch_well_formed branch_here branch_only
 
--- ---- what is caught and handled
+-- ---- catch clauses and handlers
 
 abbrev pub catch_printing : Printing catch_clause
 catch_printing = printing_of spell_catch printable_catch catch_well_formed catch_here catch_only
@@ -233,21 +233,21 @@ throw_printing =
     printing_at_end spell_throw printable_throw throw_well_formed (λ v h. throw_here v [] h refl)
     throw_only
 
--- ---- what stands behind the word of an instruction alone
+-- ---- operands of a single instruction
 
--- the label that may be at `else` and `end`
+-- the optional label of `else` and `end`
 abbrev pub end_label_printing : Printing (opt begins_id identifier)
 end_label_printing =
     printing_at_end (spell_option spell_id) (if_some is_name) end_label_well_formed
     (λ v h. end_label_here v [] h refl) end_label_only
 
--- the ordering that a fence may have
+-- the optional ordering of a fence
 abbrev pub fence_printing : Printing (opt begins_ordering ordering)
 fence_printing =
     printing_at_end (spell_option spell_ordering) (λ _. true) (λ v h. fence_well_formed v)
     (λ v h. fence_here v [] refl) (only_any (opt begins_ordering ordering))
 
--- no tokens spell a number of floating point
+-- no tokens spell a floating-point number
 abbrev pub number_printing : Printing (none {A = ℕ})
 number_printing = record {
   spell = λ _. [];

@@ -1,4 +1,4 @@
--- How constants of 128 bits, and lanes that are shuffled, are written.
+-- How constants of 128 bits and shuffled lanes are written.
 use Rattle.std.specs.Prelude.{ℕ, ℤ, Bool, false, List, [], ◌∷◌, codes, flat_map}
 use Rattle.wat_lexer.specs.Token.{Tok, Keyword}
 use Rattle.wat_operands.specs.declared.vector.I8x16Shuffle.{I8x16Shuffle}
@@ -8,11 +8,11 @@ use Rattle.wat_operands.specs.declared.vector.V128Const.TheVariants.{F32x4, F64x
 use Rattle.wat_print.specs.Before.{spell_number}
 use Rattle.wat_print_instr.specs.Numbers.{spell_signed, is_signed, is_unsigned, printable_number_of}
 
--- a shape's word, and its lanes
+-- the word of a shape, and the lanes
 abbrev pub spell_lanes : List ℕ → List ℤ → List Tok
 spell_lanes w zs = Keyword w ∷ flat_map spell_signed zs
 
--- no tokens spell numbers of floating point
+-- no tokens spell floating-point numbers
 abbrev pub spell_vector : V128Const → List Tok
 spell_vector (I8x16 zs) = spell_lanes (codes "i8x16") zs
 spell_vector (I16x8 zs) = spell_lanes (codes "i16x8") zs

@@ -1,4 +1,4 @@
-//! How accesses to memories, orderings and lanes are printed.
+//! Printing of memory accesses, orderings and lanes.
 
 ghost use Rattle.std.specs.Prelude.{◌≡◌, ◌≢◌, OnOk, IfErr, true, false};
 ghost use Rattle.wat_operands.specs.Lanes.{lane_arg, lane_access_view};
@@ -25,7 +25,7 @@ use wat_operands::{
 use wat_print::reference::write_index;
 use wat_print::{Output, Refused};
 
-/// Writes what is accessed: an array's type in its group, or a memory, unless it is 0.
+/// Writes the target of an access: `( type idx )` for an array, or a memory. Memory 0 is omitted.
 #[tactic(auto, using(wat_print::specs::Laws::Written::put_both))]
 fn write_target(out: &mut Output, target: &MemArgTarget) -> Result<(), Refused>
     ensures written { OnOk result (out.new ≡ put out.old (spell_target (target_view target.now))) }
@@ -44,16 +44,16 @@ fn write_target(out: &mut Output, target: &MemArgTarget) -> Result<(), Refused>
     }
 }
 
-/// Whether it is the default, or a power of two.
+/// Whether the alignment is the default, or a power of two.
 fn may_align(align: u64, default: u64) -> bool
     ensures { result ≡ printable_alignment default align }
 {
     align == default || align.is_power_of_two()
 }
 
-/// Writes what an access is given but for its ordering: its target, its offset unless it is 0, and
-/// its alignment unless it is the default. An alignment that is no power of two and not the default
-/// is refused with Alignment.
+/// Writes the target, the offset and the alignment of an access, but not its ordering. Offset 0 and
+/// the default alignment are omitted. It fails with Alignment if the alignment is neither the
+/// default nor a power of two.
 #[tactic(auto, using(wat_print::specs::Laws::Written::put_both))]
 fn write_place(out: &mut Output, access: &MemArg, default: u64) -> Result<(), Refused>
     ensures written { OnOk result (out.new ≡ put out.old
@@ -70,11 +70,11 @@ fn write_place(out: &mut Output, access: &MemArg, default: u64) -> Result<(), Re
     write_unless(out, access.align == default, "align=", access.align)
 }
 
-/// Writes what an access is given (Text Format, Instructions, "Memory Instructions"): its target,
-/// its offset unless it is 0, and its alignment unless it is the default.
+/// Writes the operand of an access (Text Format, Instructions, "Memory Instructions"): its target,
+/// its offset unless the offset is 0, and its alignment unless the alignment is the default.
 ///
-/// An alignment that is no power of two and not the default is refused with Alignment, and an
-/// access that has an ordering with Ordering.
+/// It fails with Ordering if the access has an ordering. It fails with Alignment if the alignment
+/// is neither the default nor a power of two.
 pub fn write_access(out: &mut Output, access: &MemArg, default: u64) -> Result<(), Refused>
     ensures written { OnOk result (out.new ≡ put out.old
         (spell_access default (mem_arg_view access.now))) }
@@ -88,7 +88,7 @@ pub fn write_access(out: &mut Output, access: &MemArg, default: u64) -> Result<(
     write_place(out, access, default)
 }
 
-/// The word for the ordering.
+/// The word of an ordering.
 fn word_of(ordering: Ordering) -> &'static str
     ensures { result.now ≡ ordering_word ordering }
 {
@@ -106,8 +106,8 @@ pub(crate) fn write_ordering(out: &mut Output, ordering: Ordering) -> Result<(),
     out.word(word_of(ordering))
 }
 
-/// Whether an atomic instruction can have the ordering; `rmw` says whether it reads, changes and
-/// writes.
+/// Whether an atomic instruction can have the ordering. `rmw` is true for a read-modify-write
+/// instruction.
 fn may_order(ordering: Option<MemArgOrdering>, rmw: bool) -> bool
     ensures { result ≡ printable_ordering rmw ordering }
 {
@@ -118,7 +118,7 @@ fn may_order(ordering: Option<MemArgOrdering>, rmw: bool) -> bool
     }
 }
 
-/// Writes the ordering of an access, where it has one.
+/// Writes the ordering of an access, if the access has one.
 fn write_access_ordering(out: &mut Output, ordering: Option<MemArgOrdering>) -> Result<(), Refused>
     ensures written { OnOk result (out.new ≡ put out.old
         (spell_option (λ o. spell_ordering (ordering_in o)) ordering)) }
@@ -131,13 +131,13 @@ fn write_access_ordering(out: &mut Output, ordering: Option<MemArgOrdering>) -> 
     }
 }
 
-/// Writes what an atomic access is given (Text Format, Instructions, "Memory Instructions", with
-/// the proposals on threads): what [`write_access`] writes, and then its ordering, where it has
-/// one. `rmw` says whether the instruction reads, changes and writes.
+/// Writes the operand of an atomic access (Text Format, Instructions, "Memory Instructions", with
+/// the proposals on threads): its target, offset and alignment as in [`write_access`], and its
+/// ordering if it has one. `rmw` is true for a read-modify-write instruction.
 ///
-/// An alignment that is no power of two and not the default is refused with Alignment. An ordering
-/// of an instruction that reads, changes and writes is refused with Ordering where the instruction
-/// does not, and one of another instruction where it does.
+/// It fails with Ordering if the ordering is `Rmw` and `rmw` is false, or the ordering is `Op` and
+/// `rmw` is true. It fails with Alignment if the alignment is neither the default nor a power of
+/// two.
 #[tactic(auto, using(wat_print::specs::Laws::Written::put_both))]
 pub fn write_atomic(
     out: &mut Output,
@@ -168,8 +168,8 @@ fn write_lane(out: &mut Output, lane: &LaneArg) -> Result<(), Refused>
     out.number(u64::from(lane.lane))
 }
 
-/// Writes what an access to one lane is given (Text Format, Instructions, "Memory Instructions"):
-/// what [`write_access`] writes, and then the lane.
+/// Writes the operand of an access to one lane (Text Format, Instructions, "Memory Instructions"):
+/// the access, as [`write_access`] does, and then the lane. It fails as [`write_access`] does.
 #[tactic(auto, using(wat_print::specs::Laws::Written::put_both))]
 pub fn write_lane_access(
     out: &mut Output,

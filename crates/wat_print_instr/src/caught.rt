@@ -1,4 +1,4 @@
-//! How what a `try_table` catches, and tables of handlers, are printed.
+//! Printing of the catch clauses of a `try_table`, and of tables of handlers.
 
 ghost use Rattle.std.specs.Prelude.{◌≡◌, ◌≢◌, List, OnOk, IfErr, true, false};
 ghost use Rattle.wat_tokens.specs.Index.{index_view};
@@ -26,7 +26,7 @@ use wat_operands::{
 use wat_print::reference::write_index;
 use wat_print::{Output, Refused};
 
-/// Writes the word of a clause, and the tag where it has one.
+/// Writes the word of a catch clause, and its tag if the clause has one.
 fn write_catch_kind(out: &mut Output, kind: &TryTableCatchKind) -> Result<(), Refused>
     ensures written { OnOk result (out.new ≡ put out.old
         (spell_catch_kind (catch_kind_view index_view kind.now))) }
@@ -111,7 +111,7 @@ impl PrintCode for Handle<'_> {
     }
 }
 
-/// Writes handlers, one behind the other.
+/// Writes handlers in order.
 fn write_handlers(out: &mut Output, table: &ResumeTable) -> Result<(), Refused>
     ensures written { OnOk result (out.new ≡ put out.old
         (spell_resume_table (resume_table_view table.now))) }

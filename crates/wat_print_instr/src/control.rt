@@ -1,4 +1,4 @@
-//! How the types of blocks, calls, selects and casts are printed.
+//! Printing of the types of blocks, calls, selects and casts.
 
 ghost use Rattle.std.specs.Prelude.{◌≡◌, ◌≢◌, List, Option, OnOk, IfErr, true, false, map};
 ghost use Rattle.wat_types.specs.Reference.{RefTy, ref_type};
@@ -47,8 +47,8 @@ fn is_unlabelled(ty: &TypeUse<FunctionType>) -> bool
     }
 }
 
-/// Writes the type of a block or of a call: a use of a function type without names. One whose
-/// inline type has a label is refused with Label.
+/// Writes the type of a block or of a call: a type use without identifiers or names. It fails with
+/// Label if a parameter of the inline type has an identifier or a name.
 fn write_signature(out: &mut Output, ty: &TypeUse<FunctionType>) -> Result<(), Refused>
     ensures written { OnOk result (out.new ≡ put out.old (spell_use (signature_view ty.now))) }
     ensures printable { OnOk result (printable_unnamed_use (signature_view ty.now) ≡ true) }
@@ -61,8 +61,8 @@ fn write_signature(out: &mut Output, ty: &TypeUse<FunctionType>) -> Result<(), R
     write_use(out, ty)
 }
 
-/// Writes what an instruction says of its block (Text Format, Instructions, "Control
-/// Instructions"): its label, and its type. A type that has a label is refused with Label.
+/// Writes the label and the type of a block (Text Format, Instructions, "Control Instructions"). It
+/// fails with Label if a parameter of the type has an identifier or a name.
 #[tactic(auto, using(wat_print::specs::Laws::Written::put_both))]
 pub fn write_block(out: &mut Output, block: &BlockType) -> Result<(), Refused>
     ensures written { OnOk result (out.new ≡ put out.old (spell_block (block_view block.now))) }
@@ -108,7 +108,7 @@ impl PrintCode for BlockType<'_> {
     }
 }
 
-/// A type that has a label is refused with Label.
+/// It fails with Label if a parameter of the type has an identifier or a name.
 impl PrintCode for CallIndirect<'_> {
     ghost View = { CallTy };
 
@@ -125,7 +125,7 @@ impl PrintCode for CallIndirect<'_> {
     }
 }
 
-/// Writes types in a group of results.
+/// Writes `( result ValType* )`.
 fn write_result(out: &mut Output, types: &[ValType]) -> Result<(), Refused>
     ensures written { OnOk result (out.new ≡ put out.old (spell_result (map val_view types.now))) }
     ensures printable { OnOk result (each printable_val (map val_view types.now) ≡ true) }

@@ -1,4 +1,4 @@
-//! How expressions are printed.
+//! Printing of expressions.
 
 ghost use Rattle.std.specs.Prelude.{◌≡◌, ◌≢◌, ◌&&◌, [], OnOk, IfOk, IfErr, true, false, map};
 ghost use Rattle.std.specs.Prelude.{string_bytes};
@@ -35,7 +35,7 @@ fn may_branch(instr: &Instruction) -> bool
     instr.is_br_if() || instr.is_if()
 }
 
-/// Writes a hint: a string of one byte.
+/// Writes a hint: an annotation with a string of one byte.
 fn write_value(out: &mut Output, value: u8) -> Result<(), Refused>
     ensures written { OnOk result (out.new ≡ put out.old (spell_hint value)) }
     ensures refused { IfErr result (λ e. e ≡ Memory) }
@@ -46,8 +46,8 @@ fn write_value(out: &mut Output, value: u8) -> Result<(), Refused>
     out.close()
 }
 
-/// Writes the hint that stands before an instruction, where there is one. It is refused where it is
-/// neither 0 nor 1, or the instruction neither `br_if` nor `if`.
+/// Writes the hint of an instruction, if there is one. It fails with Hint if the hint is neither 0
+/// nor 1, or the instruction is neither `br_if` nor `if`.
 fn write_hint(out: &mut Output, hint: Option<u32>, instr: &Instruction) -> Result<(), Refused>
     ensures written { OnOk result (out.new ≡ put out.old (spell_option spell_hint hint)) }
     ensures printable { OnOk result
@@ -62,8 +62,8 @@ fn write_hint(out: &mut Output, hint: Option<u32>, instr: &Instruction) -> Resul
     }
 }
 
-/// Whether it ends a part of a block: `else` and `end`, and of the exceptions as they were before
-/// `try_table` also `catch`, `catch_all` and `delegate`.
+/// Whether the instruction ends a part of a block: `else` and `end`, and the instructions `catch`,
+/// `catch_all` and `delegate` of the legacy exceptions.
 fn ends_part(op: Op) -> bool {
     match op {
         Op::Label(_) => true,
@@ -73,7 +73,7 @@ fn ends_part(op: Op) -> bool {
     }
 }
 
-/// Whether a part of a block follows it.
+/// Whether a part of a block follows the instruction.
 fn begins_part(op: Op) -> bool {
     match op {
         Op::Block(_) => true,
@@ -85,8 +85,8 @@ fn begins_part(op: Op) -> bool {
     }
 }
 
-/// Breaks the line in front of an instruction, if it is to stand on a line of its own. One that
-/// ends a part of a block stands as far to the left as the block.
+/// Breaks the line before an instruction if `on_lines`. An instruction that ends a part of a block
+/// is indented like the block.
 #[tactic(auto, using(crate::proofs::Walked::line_or_nothing))]
 fn begin_step(out: &mut Output, op: Op, on_lines: bool) -> Result<(), Refused>
     ensures written { OnOk result (Writes [] out.old out.new) }
@@ -101,7 +101,7 @@ fn begin_step(out: &mut Output, op: Op, on_lines: bool) -> Result<(), Refused>
     out.line()
 }
 
-/// What follows an instruction that a part of a block follows stands further to the right.
+/// Indents the following instructions if a part of a block follows the instruction.
 fn end_step(out: &mut Output, op: Op)
     ensures { out.new ≡ out.old }
 {
@@ -110,8 +110,8 @@ fn end_step(out: &mut Output, op: Op)
     }
 }
 
-/// Writes an instruction, on a line of its own if that is wanted, behind its hint where it has one.
-/// What is inside of a block is indented by two spaces more than the block.
+/// Writes an instruction after its hint, on a separate line if `on_lines`. The instructions inside
+/// a block are indented by two spaces more than the block.
 fn write_step(
     out: &mut Output,
     hint: Option<u32>,
@@ -133,8 +133,8 @@ fn write_step(
     Ok(())
 }
 
-/// The hint of the instruction at the index, where the first of the hints is its, and the hints of
-/// those behind it.
+/// Returns the hint of the instruction at the index, and the hints of the instructions after it.
+/// The hint is None unless the first of the hints has the index.
 fn first_hint<'b>(hints: &'b [BranchHint], index: usize) -> (Option<u32>, &'b [BranchHint])
     ensures hint { result.0 ≡ hint_for index (map hint_view hints.now) }
     ensures rest { map hint_view result.1.now ≡ hints_after index (map hint_view hints.now) }
@@ -145,8 +145,8 @@ fn first_hint<'b>(hints: &'b [BranchHint], index: usize) -> (Option<u32>, &'b [B
     (Some(hints[0].value), &hints[1..])
 }
 
-/// Writes instructions, each on a line of its own if that is wanted, behind its hint where it has
-/// one.
+/// Writes instructions, each after its hint, and on a separate line if `on_lines`. It fails as
+/// [`write_expression`] does.
 fn write_steps(
     out: &mut Output,
     instrs: &[Instruction],
@@ -178,10 +178,14 @@ fn write_steps(
     Ok(())
 }
 
-/// Writes an expression (Text Format, Instructions, "Expressions"): its instructions, each on a
-/// line of its own, behind its hint where it has one. A hint is refused where it is neither 0 nor
-/// 1, stands before another instruction than `br_if` or `if`, or isn't in the order of the
-/// instructions.
+/// Writes the instructions of an expression (Text Format, Instructions, "Expressions"). Each
+/// instruction follows its hint, on a separate line if the layout has lines.
+///
+/// It fails with Hint in these cases:
+/// - a hint is neither 0 nor 1;
+/// - the instruction of a hint is neither `br_if` nor `if`;
+/// - a hint has an index that no instruction has;
+/// - the indices of the hints don't increase.
 pub fn write_expression(out: &mut Output, value: &Expression) -> Result<(), Refused>
     ensures written { OnOk result
         (Writes (spell_expression (expression_view value.now)) out.old out.new) }
@@ -194,8 +198,8 @@ pub fn write_expression(out: &mut Output, value: &Expression) -> Result<(), Refu
     Ok(())
 }
 
-/// Writes an expression as [`write_expression`] does. One of a single instruction, as most that
-/// give a constant, stays on the line that it begins on.
+/// Writes an expression as [`write_expression`] does. A single instruction, the usual form of a
+/// constant expression, stays on the current line.
 pub fn write_constant(out: &mut Output, value: &Expression) -> Result<(), Refused>
     ensures written { OnOk result
         (Writes (spell_expression (expression_view value.now)) out.old out.new) }
@@ -209,10 +213,10 @@ pub fn write_constant(out: &mut Output, value: &Expression) -> Result<(), Refuse
     Ok(())
 }
 
-/// The text of an expression, laid out as said: flat, without folded instructions.
+/// Returns the text of an expression in the layout. No instruction is folded.
 ///
-/// The text is cut into tokens that spell the expression. One that no text spells is refused with
-/// the first reason that is met. Memory that is refused is answered by Memory.
+/// The tokens of the text spell the expression. If no text spells the expression, it fails with the
+/// first reason that it meets. If memory runs out, it fails with Memory.
 pub fn print_expression(
     alloc: Global,
     value: &Expression,
@@ -230,11 +234,11 @@ pub fn print_expression(
     Ok(out.into_text())
 }
 
-/// The expression, printed and read again: the same one, spans aside.
+/// Prints an expression in the layout and reads the text again. The returned expression is the
+/// same, spans aside. The text and the returned expression are in the arena.
 ///
-/// It is laid out as said. The text and what is read lie in the arena. An expression that no text
-/// spells is refused as [`print_expression`] does it. Memory that is refused is answered by Memory,
-/// and what was printed is never refused by the reader for another reason.
+/// It fails as [`print_expression`] does, and with Memory if memory runs out. The reader never
+/// refuses the printed text for another reason.
 pub fn expression_read_again<'a>(
     alloc: Global,
     value: &Expression,

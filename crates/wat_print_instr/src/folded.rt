@@ -1,4 +1,4 @@
-//! How folded instructions are printed.
+//! Printing of folded instructions.
 
 ghost use Rattle.std.specs.Prelude.{◌≡◌, ◌≢◌, ◌&&◌, [], ◌∷◌, ◌++◌, OnOk, IfErr, IfSome};
 ghost use Rattle.std.specs.Prelude.{MatchOption, Some, None, true, false, is_some, map};
@@ -21,14 +21,14 @@ use wat_instr::Instruction;
 use wat_mnemonics::{IndexedOp, Op, ScalarOp};
 use wat_print::{Output, Refused};
 
-/// Whether the groups directly behind it may be those of what it catches.
+/// Whether a group directly after the instruction may be a catch clause: only for `try_table`.
 fn takes_catches(op: Op) -> bool
     ensures { result ≡ takes_catches op }
 {
     matches!(op, Op::try_table)
 }
 
-/// Whether its group, directly behind a `try_table`, isn't one of an instruction.
+/// Whether the group of the instruction, directly after a `try_table`, is read as a catch clause.
 fn is_catch(op: Op) -> bool
     ensures { result ≡ is_catch op }
 {
@@ -39,7 +39,7 @@ fn is_catch(op: Op) -> bool
     }
 }
 
-/// Whether its group can stand between a `try_table` and a `catch`.
+/// Whether the group of the instruction can separate a `try_table` from a `catch`.
 fn keeps_apart(instr: &Instruction) -> bool
     ensures { result ≡ keeps_apart (instruction_view instr.now) }
 {
@@ -47,7 +47,7 @@ fn keeps_apart(instr: &Instruction) -> bool
     !takes_catches(op) && !is_catch(op)
 }
 
-/// Writes an instruction in a group of its own.
+/// Writes an instruction in a separate group.
 #[tactic(auto, using(wat_print::specs::Laws::Written::put_both))]
 fn write_own(out: &mut Output, instr: &Instruction) -> Result<(), Refused>
     ensures written { OnOk result (out.new ≡ put out.old (spell_own (instruction_view instr.now))) }
@@ -60,7 +60,7 @@ fn write_own(out: &mut Output, instr: &Instruction) -> Result<(), Refused>
     out.close()
 }
 
-/// Writes instructions, each in a group of its own.
+/// Writes instructions, each in a separate group.
 fn write_each_own(out: &mut Output, instrs: &[Instruction]) -> Result<(), Refused>
     ensures wrote { OnOk result (Wrote instruction_view spell_own printable_instruction instrs.now
         out.old out.new) }
@@ -73,7 +73,7 @@ fn write_each_own(out: &mut Output, instrs: &[Instruction]) -> Result<(), Refuse
     Ok(())
 }
 
-/// The first instruction that keeps apart, with those before it and those behind it.
+/// Returns the first instruction that keeps apart, between the instructions before and after it.
 fn find_apart<'b, 'a>(
     instrs: &'b [Instruction<'a>],
 ) -> Option<
@@ -97,8 +97,9 @@ fn find_apart<'b, 'a>(
     None
 }
 
-/// Writes the group of the first instruction that keeps apart, with those before it in groups in
-/// it, and then those behind it in groups of their own.
+/// Writes the group of the first instruction that keeps apart. The group contains the groups of the
+/// instructions before it; the groups of the instructions after it follow. It fails with Folded if
+/// no instruction keeps apart.
 fn write_apart(out: &mut Output, instrs: &[Instruction]) -> Result<(), Refused>
     ensures written { OnOk result (out.new ≡ put out.old
         (spell_option spell_groups (first_apart [] (map instruction_view instrs.now)))) }
@@ -119,7 +120,7 @@ fn write_apart(out: &mut Output, instrs: &[Instruction]) -> Result<(), Refused>
     Ok(())
 }
 
-/// Whether the group of the second, directly behind the first, isn't one of an instruction.
+/// Whether the group of `first`, directly after `last`, is read as a catch clause.
 #[tactic(auto, using(wat_mnemonics::specs::Laws::Places::there))]
 fn is_taken(last: &Instruction, first: &Instruction) -> bool
     ensures { result ≡ takes_catches (op_of (instruction_view last.now))
@@ -128,7 +129,7 @@ fn is_taken(last: &Instruction, first: &Instruction) -> bool
     takes_catches(last.op()) && is_catch(first.op())
 }
 
-/// Whether a `catch` would be the first behind a `try_table`.
+/// Whether the first group after a `try_table` would be a `catch` or `catch_all`.
 fn catch_first(last: &Instruction, instrs: &[Instruction]) -> bool
     ensures { result ≡ catch_first (instruction_view last.now) (map instruction_view instrs.now) }
 {
@@ -138,7 +139,8 @@ fn catch_first(last: &Instruction, instrs: &[Instruction]) -> bool
     is_taken(last, &instrs[0])
 }
 
-/// Writes the groups of the instructions before the last one, behind that one.
+/// Writes the groups of the instructions before `last`, whose group contains them. It fails with
+/// Folded if a `catch` or `catch_all` would follow a `try_table`, and no instruction keeps apart.
 fn write_behind(out: &mut Output, last: &Instruction, instrs: &[Instruction]) -> Result<(), Refused>
     ensures written { OnOk result (out.new ≡ put out.old (spell_option spell_groups
         (groups_behind (instruction_view last.now) (map instruction_view instrs.now)))) }
@@ -156,8 +158,8 @@ fn write_behind(out: &mut Output, last: &Instruction, instrs: &[Instruction]) ->
     write_each_own(out, instrs)
 }
 
-/// The last instruction is in front, and the others are in groups behind it. A hint is refused with
-/// Hint, and instructions that are in no group with Folded.
+/// The last instruction comes first in the group, and the groups of the others follow. It fails
+/// with Hint if there is a hint, and with Folded if no group has these instructions.
 impl PrintCode for FoldedInstruction<'_> {
     ghost View = { Expr };
 

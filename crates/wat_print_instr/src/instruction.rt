@@ -1,4 +1,4 @@
-//! How instructions are printed.
+//! Printing of instructions.
 
 ghost use Rattle.std.specs.Prelude.{◌≡◌, ◌≢◌, OnOk, IfErr, true, false};
 ghost use Rattle.wat_tokens.specs.Index.{name_of};
@@ -24,7 +24,7 @@ use wat_print::reference::{write_heap, write_index};
 use wat_print::{Output, Refused};
 use wat_tokens::Id;
 
-/// Writes the label that may be at `else` and `end`.
+/// Writes the label of an `else` or `end`, if it has one.
 fn write_end_label(out: &mut Output, label: &Option<Id>) -> Result<(), Refused>
     ensures written { OnOk result (out.new ≡ put out.old
         (spell_option spell_id (option_view name_of label.now))) }
@@ -38,7 +38,7 @@ fn write_end_label(out: &mut Output, label: &Option<Id>) -> Result<(), Refused>
     }
 }
 
-/// Writes the ordering that a fence may have.
+/// Writes the ordering of a fence, if the fence has one.
 fn write_fence(out: &mut Output, ordering: Option<Ordering>) -> Result<(), Refused>
     ensures written { OnOk result (out.new ≡ put out.old
         (spell_option spell_ordering (option_view (λ o. o) ordering))) }
@@ -50,7 +50,7 @@ fn write_fence(out: &mut Output, ordering: Option<Ordering>) -> Result<(), Refus
     }
 }
 
-/// Writes what is said of a block, which is nothing where there is no box.
+/// Writes the label and the type of a block, or nothing if there is no box.
 fn write_said(out: &mut Output, block: &Option<Box<BlockType>>) -> Result<(), Refused>
     ensures written { OnOk result (out.new ≡ put out.old (spell_block (block_in block.now))) }
     ensures printable { OnOk result (printable_block (block_in block.now) ≡ true) }
@@ -63,7 +63,7 @@ fn write_said(out: &mut Output, block: &Option<Box<BlockType>>) -> Result<(), Re
     }
 }
 
-/// Writes the operand of an instruction, behind its word.
+/// Writes the operand of an instruction, without its word.
 fn write_operand(out: &mut Output, instr: &Instruction) -> Result<(), Refused>
     ensures written { OnOk result (out.new ≡ put out.old
         ((operand_form (op_in instr.now)).spell (operand_in instr.now))) }
@@ -126,8 +126,8 @@ fn write_operand(out: &mut Output, instr: &Instruction) -> Result<(), Refused>
     }
 }
 
-/// A floating-point number is refused with Float. What the operand is refused with is said at its
-/// type.
+/// It fails with Float for a floating-point constant. The type of each operand documents its other
+/// errors.
 impl PrintCode for Instruction<'_> {
     ghost View = { Instr };
 

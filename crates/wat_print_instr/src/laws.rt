@@ -1,4 +1,4 @@
-//! Laws of what is printed.
+//! Laws of printed instructions.
 
 ghost use Rattle.std.specs.Prelude.{◌≡◌, ◌∷◌, ℕ, List, codes, true, false};
 ghost use Rattle.std.specs.Str.{bytes_eq};
@@ -9,13 +9,14 @@ ghost use Rattle.wat_print_instr.specs.InstructionForm.{spell_instruction, print
 
 use wat_instr::laws::stands_before_what_may_follow;
 
-/// What is written of an instruction is read again wherever it stands in a list of instructions.
+/// The tokens written for an instruction parse back to it at any place in a list of instructions.
 pub fn instruction_is_read_again()
-    // It spells the instruction in front of what is empty or begins with `)` or a mnemonic, and has
-    // none of the words `type`, `param` and `result` second.
+    // They spell the instruction before a rest that is empty or begins with `)` or a mnemonic, if
+    // the second token of the rest is none of the words `type`, `param` and `result`.
     ensures follow { (i : Instr) (s : List Tok) → printable_instruction i ≡ true → MayFollow s
         → instruction.spells i (spell_instruction i) s }
-    // So it does in front of a group that begins with another annotation than `@name`, as a hint.
+    // They also spell the instruction before a group that begins with an annotation other than
+    // `@name`, for example a hint.
     ensures annotated { (i : Instr) (n : List ℕ) (s : List Tok) → printable_instruction i ≡ true
         → bytes_eq n (codes "name") ≡ false
         → instruction.spells i (spell_instruction i) (LParen ∷ Annotation n ∷ s) }

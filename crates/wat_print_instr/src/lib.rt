@@ -1,8 +1,9 @@
 //! Instructions, their operands and expressions as text (WebAssembly Core Specification, Text
 //! Format, "Instructions").
 //!
-//! A type that has [`PrintCode`] is printed by [`wat_print::print`] as [`Code`], an expression by
-//! [`expression::print_expression`], and what is printed is read again as the same value.
+//! [`wat_print::print`] prints a value of a type that has [`PrintCode`], as [`Code`].
+//! [`expression::print_expression`] prints an expression. The printed text parses back to the same
+//! value.
 #![tactic(auto)]
 
 pub mod access;

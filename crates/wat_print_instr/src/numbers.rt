@@ -1,4 +1,4 @@
-//! How numbers are printed.
+//! Printing of numbers.
 
 ghost use Rattle.std.specs.Prelude.{◌≡◌, ℕ, ℤ, OnOk, IfErr};
 ghost use Rattle.wat_tokens.specs.Floats.{none};
@@ -15,7 +15,7 @@ use crate::traits::PrintCode;
 use wat_print::{Output, Refused};
 use wat_tokens::{F32, F64};
 
-/// Writes a number with a sign.
+/// Writes a signed number in decimal digits. It fails only with Memory.
 pub fn write_signed(out: &mut Output, number: i64) -> Result<(), Refused>
     ensures written { OnOk result (out.new ≡ put out.old (spell_signed number)) }
     ensures refused { IfErr result (λ e. e ≡ Memory) }
@@ -23,7 +23,7 @@ pub fn write_signed(out: &mut Output, number: i64) -> Result<(), Refused>
     out.signed(number)
 }
 
-/// Writes a word that ends in the number, unless the number is meant without it.
+/// Writes a word that ends in the number, or nothing if `is_meant`: the text omits the number.
 pub(crate) fn write_unless(
     out: &mut Output,
     is_meant: bool,
@@ -157,7 +157,7 @@ impl PrintCode for u64 {
     }
 }
 
-/// No text has one: it is refused with Float.
+/// It fails with Float: no text is read as a floating-point number.
 impl PrintCode for F32 {
     ghost View = { ℕ };
 
@@ -173,7 +173,7 @@ impl PrintCode for F32 {
     }
 }
 
-/// No text has one: it is refused with Float.
+/// It fails with Float: no text is read as a floating-point number.
 impl PrintCode for F64 {
     ghost View = { ℕ };
 

@@ -1,4 +1,4 @@
-//! How operands of indices alone are printed.
+//! Printing of operands that consist of indices, and of an array's type and length.
 
 ghost use Rattle.std.specs.Prelude.{◌≡◌, ◌≢◌, ℕ, OnOk, IfErr, true, false};
 ghost use Rattle.wat_tokens.specs.Index.{Idx, index_view, index};
@@ -31,14 +31,14 @@ use wat_print::reference::write_index;
 use wat_print::{Output, Refused};
 use wat_tokens::Index;
 
-/// Whether it is the number 0.
+/// Whether the index is the number 0.
 pub fn is_index_0(index: &Index) -> bool
     ensures { result ≡ is_index_0 (index_view index.now) }
 {
     matches!(index, Index::Num(0, _))
 }
 
-/// Writes an index, or nothing where 0 is meant.
+/// Writes an index, or nothing for index 0.
 pub fn write_index_or_0(out: &mut Output, index: &Index) -> Result<(), Refused>
     ensures written { OnOk result (out.new ≡ put out.old
         (spell_index_or_0 (index_view index.now))) }
@@ -66,7 +66,7 @@ fn write_pair(out: &mut Output, first: &Index, second: &Index) -> Result<(), Ref
     write_index(out, second)
 }
 
-/// Writes a target, unless it is 0, and a segment.
+/// Writes a target and a segment. Target 0 is omitted.
 #[tactic(auto, using(wat_print::specs::Laws::Written::put_both))]
 fn write_init(out: &mut Output, target: &Index, segment: &Index) -> Result<(), Refused>
     ensures written { OnOk result (out.new ≡ put out.old
@@ -80,7 +80,7 @@ fn write_init(out: &mut Output, target: &Index, segment: &Index) -> Result<(), R
     write_index(out, segment)
 }
 
-/// Writes a destination and a source, or nothing where both are 0.
+/// Writes a destination and a source, or nothing if both are 0.
 fn write_copy(out: &mut Output, destination: &Index, source: &Index) -> Result<(), Refused>
     ensures written { OnOk result (out.new ≡ put out.old
         (spell_copy (index_view destination.now, index_view source.now))) }

@@ -1,4 +1,4 @@
-//! Which values are printed on one line.
+//! The values that are printed on one line.
 
 ghost use Rattle.std.specs.Prelude.{◌≡◌, ◌≢◌, OnOk, IfErr, true, false, map};
 ghost use Rattle.wat_tokens.specs.Production.{Production};
@@ -9,27 +9,27 @@ ghost use Rattle.wat_print.specs.declared.fault.Refused.TheVariants.{Memory};
 
 use wat_print::{Output, Print, Refused};
 
-/// A type whose values are written on one line, and read again as the same values.
+/// A type whose values are written on one line. A printed value parses back to the same value.
 ///
-/// It says more than [`Print`], which lets lines break between tokens. So what is written of an
-/// instruction is told to the token.
+/// Its clauses are stronger than the clauses of [`Print`], which allow line breaks between tokens:
+/// they give the exact tokens that are written for a value.
 pub trait PrintCode {
-    /// What contracts see of a value.
+    /// The view of a value in contracts.
     ghost View: { Type 0 };
 
-    /// How a value is seen.
+    /// The view of a value.
     ghost view: { Self → View };
 
-    /// Which tokens spell a value: the grammar that it is read by.
+    /// The tokens that spell a value: the grammar that parses it.
     ghost grammar: { Production View };
 
-    /// Which tokens are written of a value, and which values can be written.
+    /// The tokens that are written for a value, and the values that can be written.
     ghost printing: { Printing grammar };
 
     /// Writes the tokens of the value.
     ///
-    /// A value that can't be written is refused with the first reason that is met, and one that
-    /// can be only with Memory. What was written before a refusal stays.
+    /// For a value that can't be written it fails with the first reason that it meets; for any
+    /// other value it fails only with Memory. The tokens written before an error stay written.
     fn write(&self, out: &mut Output) -> Result<(), Refused>
         ensures written { OnOk result (out.new ≡ put out.old (printing.spell (view self.now))) }
         ensures printable { OnOk result (printing.printable (view self.now) ≡ true) }
@@ -37,7 +37,7 @@ pub trait PrintCode {
             → printing.printable (view self.now) ≡ false) };
 }
 
-/// A value as [`wat_print::print`] takes it.
+/// A value in the form that [`wat_print::print`] accepts.
 #[derive(Clone, Copy)]
 pub struct Code<'a, T>(pub &'a T);
 
@@ -56,7 +56,7 @@ impl<T: PrintCode> Print for Code<'_, T> {
     }
 }
 
-/// Writes values, one behind the other.
+/// Writes values in order. It fails with the first error of a value.
 pub fn write_each<T: PrintCode>(out: &mut Output, values: &[T]) -> Result<(), Refused>
     ensures wrote { OnOk result (Wrote T.view T.printing.spell T.printing.printable values.now
         out.old out.new) }

@@ -1,4 +1,4 @@
-//! How constants of 128 bits, and lanes that are shuffled, are printed.
+//! Printing of constants of 128 bits and of shuffled lanes.
 
 ghost use Rattle.wat_operands.specs.Vector.{v128_const, shuffle};
 ghost use Rattle.wat_print_instr.specs.Printings.{vector_printing, shuffle_printing};
@@ -7,7 +7,7 @@ use crate::traits::{PrintCode, write_each};
 use wat_operands::{I8x16Shuffle, V128Const};
 use wat_print::{Output, Refused};
 
-/// A constant of floating-point numbers is refused with Float.
+/// It fails with Float for a constant of floating-point numbers.
 impl PrintCode for V128Const {
     ghost use Rattle.wat_operands.specs.declared.vector.V128Const.{V128Const};
 

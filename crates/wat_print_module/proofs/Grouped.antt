@@ -1,4 +1,4 @@
--- Tokens that are written on lines, one behind the other and in groups.
+-- Tokens that are written on lines, in order and in groups.
 use Rattle.std.specs.Prelude.{◌≡◌, ℕ, List, [], ◌∷◌, ◌++◌}
 use Rattle.wat_lexer.specs.Token.{Tok, LParen, RParen, Keyword}
 use Rattle.wat_tokens.specs.Spelled.{in_parens}
@@ -7,31 +7,31 @@ use Rattle.wat_print.specs.Parts.{grouped}
 use Rattle.wat_print.specs.Text.{Page, put}
 use Rattle.wat_print.specs.Laws.Written.{puts_put, puts_both, puts_line}
 
--- first these on one line, and then those
+-- the tokens ts on one line, and then the tokens us
 pub puts_first : (ts us : List Tok) (a b c : Page) → b ≡ put a ts → Writes us b c
     → Writes (ts ++ us) a c
 puts_first ts us a b c e w = puts_both ts us a b c (puts_put ts a b e) w
 
--- first these, and then those on one line
+-- the tokens ts, and then the tokens us on one line
 pub puts_last : (ts us : List Tok) (a b c : Page) → Writes ts a b → c ≡ put b us
     → Writes (ts ++ us) a c
 puts_last ts us a b c w e = puts_both ts us a b c w (puts_put us b c e)
 
--- in parentheses
+-- tokens in parentheses
 pub puts_parens : (ts : List Tok) (a b c d : Page) → b ≡ put a (LParen ∷ []) → Writes ts b c
     → d ≡ put c (RParen ∷ []) → Writes (in_parens ts) a d
 puts_parens ts a b c d e w f =
     puts_first (LParen ∷ []) (ts ++ RParen ∷ []) a b d e
     (puts_last ts (RParen ∷ []) b c d w f)
 
--- a word and more in parentheses
+-- a word and tokens in parentheses
 pub puts_grouped : (w : List ℕ) (ts : List Tok) (a b c d e : Page) → b ≡ put a (LParen ∷ [])
     → c ≡ put b (Keyword w ∷ []) → Writes ts c d → e ≡ put d (RParen ∷ [])
     → Writes (grouped w ts) a e
 puts_grouped w ts a b c d e f g k h =
     puts_parens (Keyword w ∷ ts) a b d e f (puts_first (Keyword w ∷ []) ts b c d g k) h
 
--- behind a line break
+-- tokens after a line break
 pub puts_broken : (n : ℕ) (ts : List Tok) (a b c : Page) → b ≡ broken n a → Writes ts b c
     → Writes ts a c
 puts_broken n ts a b c e w = puts_both [] ts a b c (puts_line n a b e) w

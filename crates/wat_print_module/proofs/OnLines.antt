@@ -1,4 +1,4 @@
--- What is written on one line is written on lines.
+-- Tokens that are written on one line are also written in the sense of `Writes`.
 use Rattle.std.specs.Prelude.{◌≡◌, List, Result, Ok, Err, OnOk}
 use Rattle.wat_lexer.specs.Token.{Tok}
 use Rattle.wat_print.specs.Layout.{Writes}

@@ -31,7 +31,7 @@ printable_custom (raw r) = printable_raw r
 printable_custom (produced fs) = printable_producers fs
 printable_custom (linked ss) = printable_dylink ss
 
--- ---- in their parentheses
+-- ---- sections in their parentheses
 
 abbrev pub spell_raw_group : RawTy → List Tok
 spell_raw_group r = in_parens (spell_raw r)

@@ -31,7 +31,7 @@ spell_place (Before a) = Keyword (codes "before") ∷ spell_section a
 spell_place (After a) = Keyword (codes "after") ∷ spell_section a
 spell_place AfterLast = Keyword (codes "after") ∷ Keyword (codes "last") ∷ []
 
--- ( place ), but nothing behind the last section
+-- ( place ), or nothing after the last section
 abbrev pub spell_place_group : CustomPlace → List Tok
 spell_place_group AfterLast = []
 spell_place_group p = in_parens (spell_place p)

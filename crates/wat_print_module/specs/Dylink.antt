@@ -9,7 +9,7 @@ use Rattle.wat_print.specs.Parts.{grouped, each}
 use Rattle.wat_print_instr.specs.Numbers.{is_unsigned}
 use Rattle.wat_print.specs.Strings.{spell_string}
 
--- ---- what is written
+-- ---- the written tokens
 
 -- ( word size alignment )
 abbrev pub spell_sizes : List ℕ → ℕ → ℕ → List Tok
@@ -41,7 +41,7 @@ spell_subsection (target_arch n) = grouped (codes "target-arch") (spell_string n
 abbrev pub spell_dylink : List SubsectionTy → List Tok
 spell_dylink ss = Annotation (codes "dylink.0") ∷ flat_map spell_subsection ss
 
--- ---- what can be written
+-- ---- sections that can be written
 
 -- two numbers of 32 bits
 abbrev pub printable_sizes : ℕ → ℕ → Bool
@@ -67,13 +67,13 @@ is_filled (export_info []) = false
 is_filled (import_info []) = false
 is_filled _ = true
 
--- it isn't of exports as the first of the others, nor of imports as that
+-- the subsection and the first of the others aren't both of exports or both of imports
 abbrev pub is_apart : SubsectionTy → List SubsectionTy → Bool
 is_apart (export_info es) (export_info fs ∷ ss) = false
 is_apart (import_info es) (import_info fs ∷ ss) = false
 is_apart _ _ = true
 
--- as a text cuts its entries into subsections
+-- the subsections are as parsed: adjacent entries of one kind form one subsection
 abbrev pub are_cut : List SubsectionTy → Bool
 are_cut [] = true
 are_cut (s ∷ ss) = (is_filled s && is_apart s ss) && are_cut ss

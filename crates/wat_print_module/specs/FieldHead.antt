@@ -1,4 +1,4 @@
--- How exports and imports in line, and what is in front of a field's own part, are written.
+-- How inline exports, inline imports and the heads of fields are written.
 use Rattle.std.specs.Prelude.{ℕ, Bool, ◌&&◌, List, [], ◌∷◌, ◌++◌, codes, flat_map}
 use Rattle.std.specs.Str.{is_utf8}
 use Rattle.wat_lexer.specs.Token.{Tok, String}
@@ -6,7 +6,7 @@ use Rattle.wat_links.specs.FieldHead.{FieldHeadTy}
 use Rattle.wat_print.specs.Before.{spell_label, printable_label}
 use Rattle.wat_print.specs.Parts.{grouped, each}
 
--- ---- exports in line
+-- ---- inline exports
 
 -- ( export name )
 abbrev pub spell_inline_name : List ℕ → List Tok
@@ -19,7 +19,7 @@ spell_inline_export ns = flat_map spell_inline_name ns
 abbrev pub printable_inline_export : List (List ℕ) → Bool
 printable_inline_export ns = each is_utf8 ns
 
--- ---- imports in line
+-- ---- inline imports
 
 -- ( import name name )
 abbrev pub spell_inline_import : List ℕ × List ℕ → List Tok

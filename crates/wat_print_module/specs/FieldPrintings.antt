@@ -1,4 +1,4 @@
--- How functions, globals and tags, and what is in front of a field's own part, are printed.
+-- The printings of functions, globals, tags and the heads of fields.
 use Rattle.std.specs.Prelude.{[], refl}
 use Rattle.wat_links.specs.Export.{inline_export}
 use Rattle.wat_links.specs.FieldHead.{head}
@@ -31,7 +31,7 @@ use Rattle.wat_print_module.specs.Laws.Local.{local_parser_here, local_parser_we
 use Rattle.wat_print_module.specs.Laws.Local.{local_parser_only}
 use Rattle.wat_print_module.specs.Laws.Tag.{tag_here, tag_well_formed, tag_only}
 
--- ---- what is in front
+-- ---- heads of fields
 
 abbrev pub inline_export_printing : Printing inline_export
 inline_export_printing =

@@ -9,12 +9,12 @@ use Rattle.wat_print_module.specs.FieldHead.{spell_inline_import, printable_inli
 use Rattle.wat_print_module.specs.FieldHead.{spell_head, printable_head}
 use Rattle.wat_print_module.specs.Local.{spell_locals, printable_locals}
 
--- in parentheses behind `exact`, where the function is of exactly the type
+-- a type use; in parentheses after `exact` if the type is exact
 abbrev pub spell_exact_use : FuncUse → Bool → List Tok
 spell_exact_use u true = grouped (codes "exact") (spell_use u)
 spell_exact_use u false = spell_use u
 
--- an import and the type; or the type, locals and a body
+-- an import and the type, or the type, the locals and the body
 abbrev pub spell_defined_func : DefinedFunc → List Tok
 spell_defined_func (u, imported i exact) = spell_inline_import i ++ spell_exact_use u exact
 spell_defined_func (u, inline ls e) = spell_use u ++ (spell_locals ls ++ spell_expression e)

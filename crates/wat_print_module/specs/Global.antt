@@ -7,7 +7,7 @@ use Rattle.wat_print_instr.specs.ExpressionForm.{spell_expression, printable_exp
 use Rattle.wat_print_module.specs.FieldHead.{spell_inline_import, printable_inline_import}
 use Rattle.wat_print_module.specs.FieldHead.{spell_head, printable_head}
 
--- an import and the type; or the type and the first value
+-- an import and the type, or the type and the initial value
 abbrev pub spell_defined_global : DefinedGlobal → List Tok
 spell_defined_global (t, imported i) = spell_inline_import i ++ spell_global t
 spell_defined_global (t, inline e) = spell_global t ++ spell_expression e

@@ -18,11 +18,11 @@ printable_typed x = is_utf8 x.0 && printable_sig x.1
 abbrev pub spell_named : List ℕ → List Tok
 spell_named n = grouped (codes "item") (String n ∷ [])
 
--- a signature that items share has no identifier
+-- a shared signature has no identifier
 abbrev pub printable_shared : SigTy → Bool
 printable_shared s = is_none s.label.id && printable_sig s
 
--- a name and its signature; items with signatures; items, and the signature that they share
+-- a name and its signature; items with signatures; items and their shared signature
 abbrev pub spell_items : ItemsTy → List Tok
 spell_items (single n s) = String n ∷ spell_sig_group s
 spell_items (group1 xs) = flat_map spell_typed xs

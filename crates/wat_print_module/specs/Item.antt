@@ -1,4 +1,4 @@
--- How signatures of items that are imported or exported are written.
+-- How the signatures of imported and exported items are written.
 use Rattle.std.specs.Prelude.{ℕ, Bool, ◌&&◌, List, ◌∷◌, ◌++◌, codes}
 use Rattle.wat_lexer.specs.Token.{Tok, Keyword}
 use Rattle.wat_tokens.specs.Spelled.{in_parens}
@@ -16,7 +16,7 @@ item_word (global g) = codes "global"
 item_word (tag u) = codes "tag"
 item_word (exact_func u) = codes "func"
 
--- the type; that of a function which has to be of exactly its type in ( exact .. )
+-- the type; an exact function type is written in ( exact .. )
 abbrev pub spell_item : ItemKindTy → List Tok
 spell_item (func u) = spell_use u
 spell_item (table t) = spell_table_type t

@@ -68,7 +68,7 @@ section_printing = printing_of_all spell_section section_well_formed section_her
 abbrev pub place_printing : Printing custom_place
 place_printing = printing_of_all spell_place custom_place_well_formed custom_place_here
 
--- those that begin with an annotation in their parentheses
+-- sections that begin with an annotation, in their parentheses
 
 abbrev pub raw_printing : Printing (paren raw_custom)
 raw_printing =

@@ -17,7 +17,7 @@ spell_listed l = spell_label l.label ++ spell_val l.ty
 abbrev pub printable_local : LocalTy → Bool
 printable_local l = printable_label l.label && printable_val l.ty
 
--- ---- each in a group of its own
+-- ---- each local in a separate group
 
 -- ( local id? name? ValType )
 abbrev pub spell_local : LocalTy → List Tok
@@ -29,13 +29,13 @@ spell_locals ls = flat_map spell_local ls
 abbrev pub printable_locals : List LocalTy → Bool
 printable_locals ls = each printable_local ls
 
--- ---- in one group
+-- ---- locals in one group
 
 -- local id? name? ValType, or local ValType*
 abbrev pub spell_local_parser : List LocalTy → List Tok
 spell_local_parser ls = Keyword (codes "local") ∷ flat_map spell_listed ls
 
--- a local that has a label stands alone
+-- a local with a label is alone in its group
 abbrev pub may_share_group : List LocalTy → Bool
 may_share_group [] = true
 may_share_group (l ∷ []) = true

@@ -22,7 +22,7 @@ abbrev pub printable_module_kind : ModuleKindTy → Bool
 printable_module_kind (text fs) = each printable_module_field fs
 printable_module_kind (binary ss) = each printable_string ss
 
--- module id? name? and what is in it
+-- module id? name? kind
 abbrev pub spell_module : ModuleTy → List Tok
 spell_module m =
     Keyword (codes "module") ∷ (spell_label m.label ++ spell_module_kind m.kind)
@@ -34,25 +34,25 @@ printable_module m = printable_label m.label && printable_module_kind m.kind
 abbrev pub spell_module_group : ModuleTy → List Tok
 spell_module_group m = in_parens (spell_module m)
 
--- ---- what is refused
+-- ---- modules that are refused
 
 abbrev pub fields_of_kind : ModuleKindTy → List ModuleFieldTy
 fields_of_kind (text fs) = fs
 fields_of_kind (binary ss) = []
 
--- there is a field of the number, and it can't be written
+-- the field with the number exists, and can't be written
 abbrev pub UnprintableField : List ModuleFieldTy → Option ℕ → Type 0
 UnprintableField fs (Some i) =
     (f : ModuleFieldTy) × (slice_get fs i ≡ Some f) × (printable_module_field f ≡ false)
 UnprintableField fs None = ⊥
 
--- that of the module, or, where there is no number, what names the module
+-- a field of the module, or, without a number, the identifier and the name of the module
 abbrev pub UnprintablePart : ModuleTy → Option ℕ → Type 0
 UnprintablePart m (Some i) = UnprintableField (fields_of_kind m.kind) (Some i)
 UnprintablePart m None = printable_label m.label ≡ false
 
--- no text spells the field of the number in its parentheses, or, where there is no number, what
--- names the module
+-- No text spells the field with the number in its parentheses. Without a number, no text spells the
+-- identifier and the name of the module.
 abbrev pub NonePart : ModuleTy → Option ℕ → Type 0
 NonePart m (Some i) =
     (f : ModuleFieldTy) × (slice_get (fields_of_kind m.kind) i ≡ Some f) × NoneSpells field_group f

@@ -14,18 +14,18 @@ use Rattle.wat_print.specs.Parts.{grouped, each}
 abbrev pub ProducedTy : Type 0
 ProducedTy = List ℕ × List Versioned
 
--- what contracts see of one
+-- the view of a field
 abbrev pub produced_view
     : Bor (List ℕ) × Vec (Bor (List ℕ) × Bor (List ℕ)) Global → ProducedTy
 produced_view f = (f.0.now, names_view f.1.items)
 
--- ---- what is written
+-- ---- the written tokens
 
 -- ( word name version )
 abbrev pub spell_produced : List ℕ → Versioned → List Tok
 spell_produced w e = grouped w (String e.0 ∷ String e.1 ∷ [])
 
--- each of its entries
+-- the entries of a field
 abbrev pub spell_produced_field : ProducedTy → List Tok
 spell_produced_field f = flat_map (spell_produced f.0) f.1
 
@@ -33,7 +33,7 @@ spell_produced_field f = flat_map (spell_produced f.0) f.1
 abbrev pub spell_producers : List ProducedTy → List Tok
 spell_producers fs = Annotation (codes "producers") ∷ flat_map spell_produced_field fs
 
--- ---- what can be written
+-- ---- sections that can be written
 
 abbrev pub printable_versioned : Versioned → Bool
 printable_versioned e = is_utf8 e.0 && is_utf8 e.1
@@ -42,17 +42,17 @@ printable_versioned e = is_utf8 e.0 && is_utf8 e.1
 abbrev pub printable_produced_field : ProducedTy → Bool
 printable_produced_field f = not (no_items f.1) && each printable_versioned f.1
 
--- the first field, where it is of the word
+-- the first field, if the field has the word
 abbrev pub field_of_word : List ℕ → List ProducedTy → List ProducedTy
 field_of_word w [] = []
 field_of_word w (f ∷ fs) = if bytes_eq f.0 w then f ∷ [] else []
 
--- those behind it
+-- the fields after the first field, if the first field has the word; else all fields
 abbrev pub fields_behind : List ℕ → List ProducedTy → List ProducedTy
 fields_behind w [] = []
 fields_behind w (f ∷ fs) = if bytes_eq f.0 w then fs else f ∷ fs
 
--- fields of these words, in this order, each once or not at all
+-- fields with these words, in this order, each at most once
 abbrev pub printable_in_turn : List (List ℕ) → List ProducedTy → Bool
 printable_in_turn [] fs = no_items fs
 printable_in_turn (w ∷ ws) fs =

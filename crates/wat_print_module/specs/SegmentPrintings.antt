@@ -25,7 +25,7 @@ abbrev pub data_val_printing : Printing data_val
 data_val_printing =
     printing_of spell_data_val printable_data_val data_val_well_formed data_val_here data_val_only
 
--- in its parentheses
+-- a data segment in its parentheses
 abbrev pub grouped_data_printing : Printing (paren data_segment)
 grouped_data_printing =
     printing_at_end spell_grouped_data printable_data

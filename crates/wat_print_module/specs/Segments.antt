@@ -1,4 +1,4 @@
--- How data segments and element segments are written, and what they hold.
+-- How data segments, element segments and their contents are written.
 use Rattle.std.specs.Prelude.{Bool, true, ◌&&◌, if◌then◌else◌, List, [], ◌∷◌, ◌++◌, codes, flat_map}
 use Rattle.wat_lexer.specs.Token.{Tok, Keyword, String}
 use Rattle.wat_tokens.specs.Index.{Idx}
@@ -39,11 +39,11 @@ spell_offset e = grouped (codes "offset") (spell_expression e)
 
 -- ---- data segments
 
--- ( memory idx ), unless it is memory 0
+-- ( memory idx ), or nothing for memory 0
 abbrev pub spell_data_memory : Idx → List Tok
 spell_data_memory i = if is_index_0 i then [] else grouped (codes "memory") (spell_index i)
 
--- a memory and an offset, of an active segment
+-- the memory and the offset of an active segment
 abbrev pub spell_data_kind : DataKindTy → List Tok
 spell_data_kind data_kind.passive = []
 spell_data_kind (data_kind.active i e) = spell_data_memory i ++ spell_offset e
@@ -65,11 +65,11 @@ abbrev pub printable_data : DataTy → Bool
 printable_data d =
     printable_label d.label && (printable_data_kind d.kind && each printable_data_val d.vals)
 
--- in its parentheses
+-- a data segment in its parentheses
 abbrev pub spell_grouped_data : DataTy → List Tok
 spell_grouped_data d = in_parens (spell_data d)
 
--- ---- what an element segment holds
+-- ---- the elements of element segments
 
 -- ( item Expression )
 abbrev pub spell_item : Expr → List Tok
@@ -90,7 +90,7 @@ printable_payload (exprs t es) = printable_ref t && each printable_expression es
 abbrev pub spell_elem_table : Idx → List Tok
 spell_elem_table i = grouped (codes "table") (spell_index i)
 
--- declare, or a table and an offset of an active segment
+-- `declare`, or the table and the offset of an active segment
 abbrev pub spell_elem_kind : ElemKindTy → List Tok
 spell_elem_kind elem_kind.passive = []
 spell_elem_kind elem_kind.declared = Keyword (codes "declare") ∷ []

@@ -19,9 +19,9 @@ use Rattle.wat_print_module.specs.FieldHead.{spell_inline_import, printable_inli
 use Rattle.wat_print_module.specs.FieldHead.{spell_head, printable_head}
 use Rattle.wat_print_module.specs.Segments.{spell_item}
 
--- ---- types that are the same
+-- ---- equality of reference types
 
--- its number
+-- the number of an abstract heap type
 abbrev pub heap_number : AbstractHeapType → ℕ
 heap_number word.Func = 0
 heap_number word.Extern = 1
@@ -38,7 +38,7 @@ heap_number word.None = 11
 heap_number word.NoExn = 12
 heap_number word.NoCont = 13
 
--- both hold, or neither
+-- both flags are equal
 abbrev pub same_flag : Bool → Bool → Bool
 same_flag a b = if a then b else not b
 
@@ -58,14 +58,14 @@ abbrev pub spell_elements : PayloadTy → List Tok
 spell_elements (indices is) = flat_map spell_index is
 spell_elements (exprs t es) = flat_map spell_item es
 
--- of a table whose elements have the type: indices where it is `funcref`, and expressions of the
--- type, but not none of them where it is `funcref`
+-- Elements of a table with the element type t: indices if t is `funcref`, or expressions of type t.
+-- If t is `funcref`, there is at least one expression.
 abbrev pub printable_elements : RefTy → PayloadTy → Bool
 printable_elements t (indices is) = is_funcref t && each printable_index is
 printable_elements t (exprs u es) =
     same_ref t u && (not (is_funcref t && no_items es) && each printable_expression es)
 
--- what each element is at first has an instruction
+-- the initial value of the elements has an instruction
 abbrev pub printable_initial : Expr → Bool
 printable_initial e = not (no_items e.instrs) && printable_expression e
 
@@ -80,7 +80,7 @@ spell_table_kind (inline t is64 shared p) =
     ++ (spell_flag (codes "i64") is64
     ++ (spell_ref t ++ grouped (codes "elem") (spell_elements p)))
 
--- one with elements in line isn't both shared and of 64 bits
+-- a table with inline elements isn't both shared and of 64 bits
 abbrev pub printable_table_kind : TableKindTy → Bool
 printable_table_kind (imported i t) = printable_inline_import i && printable_table_type t
 printable_table_kind (normal t e) = printable_table_type t && if_some printable_initial e

@@ -24,11 +24,12 @@ pub fn read_again<'a>(
     layout: Layout,
     arena: &'a Bump,
 ) -> Result<Module<'a>, ModuleRefused>
-    // It is the same module, places aside.
+    // The copy is the same module, spans aside.
     ensures same { IfOk result (λ again. module_view again ≡ module_view «module».now) }
     ensures refused { IfErr result (λ e. e.reason ≢ Memory
         → NoneSpells (paren module_) (module_view «module».now)) }
-    // No text spells the field of the number, or, where there is none, what names the module.
+    // No text spells the field with the number; without a number, no text spells the identifier
+    // and the name of the module.
     ensures field { IfErr result (λ e. e.reason ≢ Memory
         → NonePart (module_view «module».now) e.field) }
 {

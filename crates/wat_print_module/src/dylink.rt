@@ -157,7 +157,7 @@ fn write_subsections(out: &mut Output, subsections: &[Dylink0Subsection]) -> Res
     Ok(())
 }
 
-/// Whether the subsection has an entry, if it is one of exports or of imports.
+/// Whether the subsection has an entry. Only subsections of exports and of imports need an entry.
 fn is_filled(subsection: &Dylink0Subsection) -> bool
     ensures { result ≡ is_filled (subsection_view subsection.now) }
 {
@@ -196,7 +196,8 @@ fn are_cut(subsections: &[Dylink0Subsection]) -> bool
 }
 
 /// Writes the `dylink.0` section, without its parentheses (Text Format, "Custom Annotation"). It
-/// fails if a subsection of exports or of imports has no entry, or follows another of its kind.
+/// fails if a subsection of exports or of imports has no entry. It fails if two adjacent
+/// subsections are both of exports, or both of imports.
 pub fn write_dylink(out: &mut Output, section: &Dylink0) -> Result<(), Refused>
     ensures written { OnOk result (out.new ≡ put out.old (spell_dylink (dylink_view section.now))) }
     ensures printable { OnOk result (printable_dylink (dylink_view section.now) ≡ true) }

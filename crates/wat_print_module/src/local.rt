@@ -84,7 +84,7 @@ fn are_unlabelled(locals: &[Local]) -> bool
     true
 }
 
-/// Whether the locals may stand in one group.
+/// Whether the locals may share one group.
 fn may_stand_together(locals: &[Local]) -> bool
     ensures { result ≡ may_share_group (locals_view locals.now) }
 {
@@ -95,8 +95,8 @@ fn may_stand_together(locals: &[Local]) -> bool
 }
 
 /// Writes the locals of one group, without its parentheses (Text Format, Modules, "Functions",
-/// Abbreviations). It fails with Label if there is more than one and one has an identifier or a
-/// name.
+/// Abbreviations). It fails with Label if there are several locals, and a local has an identifier
+/// or a name.
 fn write_local_parser(out: &mut Output, group: &LocalParser) -> Result<(), Refused>
     ensures written { OnOk result (out.new ≡ put out.old
         (spell_local_parser (local_parser_view group.now))) }

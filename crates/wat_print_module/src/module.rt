@@ -36,7 +36,7 @@ pub struct ModuleRefused {
     /// The reason.
     pub reason: Refused,
     /// The number of the field that can't be printed, counted from 0; None for the identifier and
-    /// the name of the module. If memory ran out, it is the field that was being written, or None.
+    /// the name of the module. If memory ran out: the field that was being written, or None.
     pub field: Option<usize>,
 }
 
@@ -165,12 +165,13 @@ pub fn write_module(out: &mut Output, value: &Module) -> Result<(), ModuleRefuse
 pub fn print_module(alloc: Global, value: &Module, layout: Layout) -> Result<String, ModuleRefused>
     ensures reads_back { IfOk result (λ s. SpellsModule (string_bytes s)
         (module_view value.now)) }
-    // On one line, it is the text of tokens that what contracts see of the module decides.
+    // In a layout of one line, the view of the module determines the text.
     ensures line { IfOk result (λ s. layout ≡ Line
         → string_bytes s ≡ printed_text (spell_module_group (module_view value.now))) }
     ensures refused { IfErr result (λ e. e.reason ≢ Memory
         → NoneSpells (paren module_) (module_view value.now)) }
-    // No text spells the field of the number, or, where there is none, what names the module.
+    // No text spells the field with the number; without a number, no text spells the identifier
+    // and the name of the module.
     ensures field { IfErr result (λ e. e.reason ≢ Memory
         → NonePart (module_view value.now) e.field) }
 {

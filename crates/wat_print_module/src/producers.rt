@@ -43,8 +43,8 @@ fn write_entries(out: &mut Output, word: &str, entries: &[(&str, &str)]) -> Resu
     Ok(())
 }
 
-/// Writes the first of the fields if it has the word, and returns the fields after it. It fails if
-/// that field has no entry.
+/// Writes the first field if the field has the word, and returns the remaining fields. It fails if
+/// the first field has the word and no entry.
 fn write_field<'f, 'a>(
     out: &mut Output,
     word: &str,

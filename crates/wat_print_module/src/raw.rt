@@ -29,7 +29,7 @@ pub fn write_pieces(out: &mut Output, pieces: &[&[u8]]) -> Result<(), Refused>
 }
 
 /// Writes a custom section with any name, without its parentheses (Text Format, "Custom
-/// Annotation"). Its place is omitted if it comes after the last section.
+/// Annotation"). The place is omitted if the section comes after the last section.
 pub fn write_raw(out: &mut Output, section: &RawCustomSection) -> Result<(), Refused>
     ensures written { OnOk result (out.new ≡ put out.old (spell_raw (raw_view section.now))) }
     ensures printable { OnOk result (printable_raw (raw_view section.now) ≡ true) }

@@ -64,8 +64,8 @@ fn is_bare_funcref(ty: &RefType, list: &[Expression]) -> bool
     is_funcref(*ty) && list.is_empty()
 }
 
-/// Writes the expressions of an inline table with the element type. It fails if they have another
-/// type, or if the type is `funcref` and there is no expression.
+/// Writes the expressions of an inline table with the element type. It fails if the expressions
+/// have another type, or if the type is `funcref` and there is no expression.
 fn write_listed_items(
     out: &mut Output,
     ty: &RefType,
@@ -144,7 +144,7 @@ fn write_inline(
     write_elem_group(out, elem, payload)
 }
 
-/// Writes the initial value of the elements, if the table has one. It fails if that has no
+/// Writes the initial value of the elements, if the table has one. It fails if the value has no
 /// instruction.
 fn write_initial(out: &mut Output, value: &Option<Expression>) -> Result<(), Refused>
     ensures written { OnOk result (Writes

@@ -10,9 +10,10 @@ use wat_print::{Output, Print, Refused};
 
 /// A type of parts of a module. A printed value parses back to the same value.
 ///
-/// It has the methods and clauses of [`Print`]. [`Print`] and the types belong to other crates, so
-/// this crate can't implement it for them. If each [`ModulePart`] implemented it instead, generic
-/// code would need a bound for every lifetime, which the prover can't state.
+/// This trait has the methods and clauses of [`Print`]. [`Print`] and the types belong to other
+/// crates, so this crate can't implement [`Print`] for the types. If each [`ModulePart`]
+/// implemented [`Print`] instead, generic code would need a bound for every lifetime. The prover
+/// can't state such a bound.
 pub trait PrintPart {
     /// The view of a value in contracts, as in its `Parse`.
     ghost View: { Type 0 };

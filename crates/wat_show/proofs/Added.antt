@@ -1,8 +1,8 @@
--- What is added to an output.
+-- Additions to an output.
 use Rattle.std.specs.Prelude.{◌≡◌, List, ℕ, ◌++◌, Result, Ok, Err, OnOk}
 use Rattle.std.proofs.Common.{◌∙◌, ap, append_assoc}
 
--- two additions are one
+-- two additions in sequence are one addition
 pub added_both : {X E : Type 0} (r : Result X E) (old mid new a b : List ℕ)
     → mid ≡ old ++ a → OnOk r (new ≡ mid ++ b) → OnOk r (new ≡ old ++ (a ++ b))
 added_both (Ok x) old mid new a b was adds =

@@ -1,4 +1,4 @@
--- A number's digits, the last one behind the others.
+-- The decimal digits of a number: the last digit after the other digits.
 use Rattle.std.proofs.Common.{rules, append_assoc, ℕ, List, [], ◌∷◌, ◌≡◌, ◌++◌, ◌+◌, ◌/◌, ◌%◌, ◌<◌, ◌≤◌, ◌^◌, decimal}
 use Rattle.std.proofs.lemmas.Fmt.{decimal_step}
 

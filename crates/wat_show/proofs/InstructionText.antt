@@ -1,4 +1,4 @@
--- An instruction's listing.
+-- The listing of an instruction.
 use Rattle.std.specs.Prelude.{◌≡◌, ◌++◌}
 use Rattle.std.proofs.Common.{ap}
 use Rattle.wat_mnemonics.specs.Ops.{op_word}
@@ -8,7 +8,7 @@ use Rattle.wat_instr.specs.Instruction.{Instruction, instr_of, op_in, operand_in
 use Rattle.wat_instr.specs.Operand.{Operand}
 use Rattle.wat_show.specs.Expressions.{headed_text, instr_text, shown_operand}
 
--- the row has the mnemonic
+-- the row of the instruction has the mnemonic
 pub instr_text_is : (h : Op) (o : Operand) → instr_text (instr_of h o) ≡ headed_text h o
 unfolding instr_text
 instr_text_is h o = ap (λ (x : Op). headed_text x o) (there h)

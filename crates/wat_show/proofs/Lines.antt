@@ -1,4 +1,4 @@
--- Which hint has an index, and the lines of instructions.
+-- The hint for an index, and the lines of instructions.
 use Rattle.std.proofs.Common.{◌≡◌, ◌≢◌, ℕ, ◌+◌, ◌<◌, ◌≤◌, List, [], ◌∷◌, ◌++◌, length, get_or, set, take, refl, sym, ◌∙◌, ap, arith, append_assoc, append-nil, subst, length-set}
 use Rattle.std.specs.Prelude.{◌==◌, Bool, eqb, true, false, if◌then◌else◌, Option, Some, None, is_some, map, Result, Ok, Err, OnOk}
 use Rattle.std.proofs.lemmas.Bool.{eqb-true, eq-eqb}
@@ -15,7 +15,7 @@ use Rattle.wat_show.proofs.InstructionText.{instruction_text}
 use Rattle.wat_show.proofs.Added.{added_both}
 use Rattle.wat_tokens.specs.Laws.Production.{by_test}
 
--- one more hint behind the others has an index that none of them has
+-- one more hint after the others is the hint for its index, if no other hint has this index
 pub hint_more : (hs : List (ℕ × ℕ)) (h : ℕ × ℕ) (k : ℕ) → hint_at hs k ≡ None → hint_at (hs ++ h ∷ []) k ≡ (if h.0 == k then Some h.1 else None)
 hint_more [] h k e = refl
 hint_more (g ∷ hs) h k e =
@@ -23,7 +23,7 @@ hint_more (g ∷ hs) h k e =
     (λ t. absurd (let f : Some g.1 ≡ None = rw t at e in cc))
     (λ t. (let f : hint_at hs k ≡ None = rw t at e in rw t (hint_more hs h k f)))
 
--- and nothing else changes
+-- one more hint changes no hint that was found
 pub hint_stays : (hs : List (ℕ × ℕ)) (h : ℕ × ℕ) (k v : ℕ) → hint_at hs k ≡ Some v → hint_at (hs ++ h ∷ []) k ≡ Some v
 hint_stays [] h k v e = cc
 hint_stays (g ∷ hs) h k v e =
@@ -31,7 +31,7 @@ hint_stays (g ∷ hs) h k v e =
     (λ t. (let f : Some g.1 ≡ Some v = rw t at e in rw t f))
     (λ t. (let f : hint_at hs k ≡ Some v = rw t at e in rw t (hint_stays hs h k v f)))
 
--- at any other index
+-- one more hint changes nothing at other indices
 pub hint_other : (hs : List (ℕ × ℕ)) (h : ℕ × ℕ) (k : ℕ) → (h.0 == k) ≡ false → hint_at (hs ++ h ∷ []) k ≡ hint_at hs k
 hint_other [] h k e = rw e refl
 hint_other (g ∷ hs) h k e = rw (hint_other hs h k e) refl
@@ -48,7 +48,7 @@ none_is_there None e = refl
 none_is_there (Some w) e = absurd cc
 
 module _ (hs : List (ℕ × ℕ)) (marks : List (Option ℕ)) (i v : ℕ) where
-  -- the hint is noted where it is the first at its index
+  -- the hint is recorded if it is the first hint for its index
   pub marks_set : i < length marks → is_some (get_or marks i None) ≡ false → AreMarks hs marks → AreMarks (hs ++ (i, v) ∷ []) (set marks i (Some v))
   marks_set lt free are k l =
       by_test (i == k)
@@ -58,7 +58,7 @@ module _ (hs : List (ℕ × ℕ)) (marks : List (Option ℕ)) (i v : ℕ) where
       (λ t. (let f : k ≢ i = λ e. (let g = eq-eqb i k (sym e) in cc) in
       get_or-set_other marks i k (Some v) None f ∙ are k (let n = length-set marks i (Some v) in omega arith) ∙ sym (hint_other hs (i, v) k t)))
 
-  -- where it isn't, nothing changes
+  -- nothing changes if it isn't the first hint
   pub marks_stay : is_some (get_or marks i None) ≡ true → AreMarks hs marks → AreMarks (hs ++ (i, v) ∷ []) marks
   marks_stay taken are k l =
       by_test (i == k)
@@ -68,12 +68,12 @@ module _ (hs : List (ℕ × ℕ)) (marks : List (Option ℕ)) (i v : ℕ) where
       e ∙ sym (hint_stays hs (i, v) k w.0 (sym (are k l) ∙ e))))
       (λ t. are k l ∙ sym (hint_other hs (i, v) k t))
 
-  -- nor at an index past the end
+  -- nothing changes if the index is past the end
   pub marks_past : length marks ≤ i → AreMarks hs marks → AreMarks (hs ++ (i, v) ∷ []) marks
   marks_past past are k l =
       are k l ∙ sym (hint_other hs (i, v) k (not_same i k (λ e. absurd (omega arith))))
 
--- one more hint is noted
+-- one more hint is recorded
 pub marks_more : (hints : List BranchHint) (n : ℕ) (d : BranchHint) (marks : List (Option ℕ)) → n < length hints → AreMarks (map hint_view (take n hints) ++ hint_view (get_or hints n d) ∷ []) marks → AreMarks (map hint_view (take (n + 1) hints)) marks
 marks_more hints n d marks lt are = subst (λ (hs : List (ℕ × ℕ)). AreMarks hs marks) (sym (map_more hint_view hints n d lt)) are
 
@@ -92,13 +92,13 @@ module _ (front : List ℕ) where
       let text : lines front hint 0 (map instruction_view (take (n + 1) instrs)) ≡ lines front hint 0 before ++ line front (instruction_view x) (hint n) = ap (λ (l : List Instr). lines front hint 0 l) (sym whole) ∙ lines_more hint 0 before (instruction_view x) n count in
       adds ∙ ap (λ (l : List ℕ). l ++ line front (instruction_view x) (hint n)) was ∙ append_assoc old (lines front hint 0 before) (line front (instruction_view x) (hint n)) ∙ ap (λ (l : List ℕ). old ++ l) (sym text)
 
-  -- lines are one where the hints below their number are
+  -- the lines are equal if the hints for their indices are equal
   pub lines_agree : (f g : ℕ → Option ℕ) (k : ℕ) (is : List Instr) → ((j : ℕ) → j < k + length is → f j ≡ g j) → lines front f k is ≡ lines front g k is
   lines_agree f g k [] same = refl
   lines_agree f g k (i ∷ is) same =
       rw (same k (omega arith), lines_agree f g (k + 1) is (λ j l. same j (omega arith))) refl
 
-  -- what is added of an expression
+  -- the lines added for an expression
   pub expression_added : {X E : Type 0} (r : Result X E) (e : Expression) (old new : List ℕ) (marks : List (Option ℕ)) → length marks ≡ length e.instrs.items → AreMarks (map hint_view e.branch_hints.items) marks → OnOk r (new ≡ old ++ lines front (λ k. get_or marks k None) 0 (map instruction_view e.instrs.items)) → OnOk r (new ≡ old ++ lines_of front (expression_view e))
   unfolding lines_of
   expression_added (Ok x) e old new marks count are adds =
@@ -106,7 +106,7 @@ module _ (front : List ℕ) where
       adds ∙ ap (λ (l : List ℕ). old ++ l) same
   expression_added (Err x) e old new marks count are adds = tt
 
-  -- what is added of one without hints
+  -- the lines added for an expression without hints
   pub plain_added : {X E : Type 0} (r : Result X E) (e : Expression) (old new : List ℕ) → e.branch_hints.items ≡ [] → OnOk r (new ≡ old ++ lines front (hint_at []) 0 (map instruction_view e.instrs.items)) → OnOk r (new ≡ old ++ lines_of front (expression_view e))
   unfolding lines_of
   plain_added (Ok x) e old new none adds = rw none adds
@@ -116,7 +116,7 @@ pub hints_none : {A : Type 0} (n : ℕ) (empty : Bool) (xs : List A) → n ≡ l
 hints_none n empty [] l b f = refl
 hints_none n empty (x ∷ xs) l b f = absurd (let t : n ≡ 0 = eqb-true n 0 (sym b ∙ f) in omega (arith, l, t))
 
--- what is added of an instruction
+-- the text added for an instruction
 pub instruction_added : {X E : Type 0} (r : Result X E) (i : Instruction) (old mid new : List ℕ) → mid ≡ old ++ op_word (op_in i) → OnOk r (new ≡ mid ++ shown_operand (op_in i) (operand_in i)) → OnOk r (new ≡ old ++ instr_text (instruction_view i))
 instruction_added r i old mid new was adds =
     subst (λ (l : List ℕ). OnOk r (new ≡ old ++ l)) (sym (instruction_text i)) (added_both r old mid new (op_word (op_in i)) (shown_operand (op_in i) (operand_in i)) was adds)

@@ -1,4 +1,4 @@
--- What is shown of a text is right for it.
+-- The output for a text is right for the bytes of the text.
 use Rattle.std.proofs.Common.{◌≡◌, ◌≢◌, ℕ, List, inl, inr, subst}
 use Rattle.std.specs.Prelude.{Result, Ok, Err, IfOk}
 use Rattle.std.specs.Str.{IsUtf8}
@@ -11,7 +11,7 @@ module _ {A X E : Type 0} (spelled : List ℕ → A → Type 0) (listing : A →
   no_value (Ok x) out status e fault line one none = inr (none fault, (e.fault, offset_of e.span, fault, line), one)
   no_value (Err r) out status e fault line one none = tt
 
--- what is shown of a text is what is shown of its bytes
+-- an output that is right for a text is right for its bytes
 pub text_shown : {X E : Type 0} (shows : List ℕ → List ℕ → ℕ → Type 0) (bytes text : List ℕ) (result : Result X E) (out : X → List ℕ) (status : X → ℕ) → text ≡ bytes → IsUtf8 bytes → IfOk result (λ x. shows text (out x) (status x)) → IfOk result (λ x. ShowsBytes shows bytes (out x) (status x))
 text_shown shows bytes text (Ok x) out status e utf8 shown = inl (utf8, subst (λ (b : List ℕ). shows b (out x) (status x)) e shown)
 text_shown shows bytes text (Err r) out status e utf8 shown = tt

@@ -27,9 +27,9 @@ use Rattle.wat_show.specs.Expressions.{below}
 use Rattle.wat_show.specs.Types.{index_text}
 use Rattle.wat_show.specs.Words.{counted}
 
--- ---- what lines are made of
+-- ---- parts of lines
 
--- how many bytes the pieces have together
+-- the total number of bytes of the pieces
 abbrev pub byte_count : List (List ℕ) → ℕ
 byte_count pieces = sum_by length pieces
 
@@ -39,13 +39,13 @@ all_below es = flat_map below es
 
 -- ---- imports and exports
 
--- `single 1`, or which group it is and how many items are in it
+-- `single 1`; or the kind of the group, and the number of its items
 abbrev pub import_text : ItemsTy → List ℕ
 import_text (single n s) = counted (codes "import single ") 1
 import_text (group1 is) = counted (codes "import group1 ") (length is)
 import_text (group2 s is) = counted (codes "import group2 ") (length is)
 
--- the word of what is exported
+-- `export`, and the word for the kind of the export
 abbrev pub export_text : ExportKind → List ℕ
 export_text kind.Func = codes "export func\n"
 export_text kind.Table = codes "export table\n"
@@ -55,74 +55,74 @@ export_text kind.Tag = codes "export tag\n"
 
 -- ---- functions, globals and tags
 
--- `import`; or `inline`, how many locals, and the body
+-- `import`; or `inline`, the number of locals, and the body
 abbrev pub func_text : FuncKindTy → List ℕ
 func_text (funcs.imported i exact) = codes "func import\n"
 func_text (funcs.inline ls body) = counted (codes "func inline ") (length ls) ++ below body
 
--- `import`; or `inline`, and the first value
+-- `import`; or `inline`, and the initial value
 abbrev pub global_text : GlobalKindTy → List ℕ
 global_text (globals.imported i) = codes "global import\n"
 global_text (globals.inline e) = codes "global inline\n" ++ below e
 
--- `import`, where it is imported from somewhere; else `inline`
+-- `import` if the tag is imported, otherwise `inline`
 abbrev pub tag_text : Option (List ℕ × List ℕ) → List ℕ
 tag_text (Some i) = codes "tag import\n"
 tag_text None = codes "tag inline\n"
 
 -- ---- tables and element segments
 
--- `indices` or `exprs`, and how many
+-- `indices` or `exprs`, and their number
 abbrev pub payload_line : PayloadTy → List ℕ
 payload_line (indices is) = counted (codes "indices ") (length is)
 payload_line (exprs t es) = counted (codes "exprs ") (length es)
 
--- the lines of its expressions
+-- the lines of the expressions of a payload
 abbrev pub payload_lines : PayloadTy → List ℕ
 payload_lines (indices is) = []
 payload_lines (exprs t es) = all_below es
 
--- the lines of an expression, where one is written
+-- the lines of an expression, if there is an expression
 abbrev pub optional_lines : Option Expr → List ℕ
 optional_lines (Some e) = below e
 optional_lines None = []
 
--- `import`; `normal`, and the first value of each element; or `inline`, and what it holds
+-- `import`; `normal`, and the initial value of the elements; or `inline`, and the payload
 abbrev pub table_text : TableKindTy → List ℕ
 table_text (tables.imported i t) = codes "table import\n"
 table_text (tables.normal t e) = codes "table normal\n" ++ optional_lines e
 table_text (tables.inline t is64 shared p) =
     codes "table inline " ++ (payload_line p ++ payload_lines p)
 
--- the word of where it is put
+-- `elem`, and the word for the kind of the segment
 abbrev pub elem_word : ElemKindTy → List ℕ
 elem_word elems.passive = codes "elem passive "
 elem_word elems.declared = codes "elem declared "
 elem_word (elems.active t offset) = codes "elem active "
 
--- the lines of its offset
+-- the lines of the offset of a segment
 abbrev pub offset_lines : ElemKindTy → List ℕ
 offset_lines elems.passive = []
 offset_lines elems.declared = []
 offset_lines (elems.active t offset) = below offset
 
--- where it is put and what it holds; below that, first the offset
+-- the line of the kind and the payload, then the lines of the offset, then the lines of the payload
 abbrev pub elem_text : Segment → List ℕ
 elem_text s = elem_word s.0 ++ (payload_line s.1 ++ (offset_lines s.0 ++ payload_lines s.1))
 
 -- ---- memories and data segments
 
--- how many bytes the values have together
+-- the total number of bytes of the values
 abbrev pub vals_count : List DataValTy → ℕ
 vals_count vs = byte_count (map bytes_in vs)
 
--- `import`; `normal`; or `inline`, and how many bytes
+-- `import`; `normal`; or `inline`, and the number of bytes
 abbrev pub memory_text : MemoryKindTy → List ℕ
 memory_text (memories.imported i t) = codes "memory import\n"
 memory_text (memories.normal t) = codes "memory normal\n"
 memory_text (memories.inline is64 page vs) = counted (codes "memory inline ") (vals_count vs)
 
--- `passive`, or `active` and below that the offset; and how many bytes
+-- `passive` or `active`, and the number of bytes; after `active`, the lines of the offset
 abbrev pub data_text : DataKindTy → List DataValTy → List ℕ
 data_text segments.passive vs = counted (codes "data passive ") (vals_count vs)
 data_text (segments.active i offset) vs =
@@ -130,7 +130,7 @@ data_text (segments.active i offset) vs =
 
 -- ---- custom sections
 
--- `raw` and how many bytes; `producers` and how many fields; or `dylink.0` and how many subsections
+-- `raw` and the number of bytes; `producers` and the number of fields; or `dylink.0` and the number of subsections
 abbrev pub custom_text : CustomTy → List ℕ
 custom_text (raw r) = counted (codes "custom raw ") (byte_count r.«data»)
 custom_text (produced fs) = counted (codes "custom producers ") (length fs)
@@ -144,7 +144,7 @@ start_text i = codes "start " ++ (index_text i ++ codes "\n")
 
 -- ---- a field
 
--- its line, and below that the lines of its expressions
+-- the line of a field, then the lines of its expressions
 unfoldable pub field_text : ModuleFieldTy → List ℕ
 field_text (a_type t) = codes "type\n"
 field_text (a_rec ts) = counted (codes "rec ") (length ts)

@@ -1,4 +1,4 @@
--- The modes of the program, and what it writes in each.
+-- The modes of the program, and its output in each mode.
 use Rattle.std.specs.Prelude.{ℕ, false, List, Option, Some, None, codes, if◌then◌else◌}
 use Rattle.std.specs.Str.{bytes_eq}
 use Rattle.wat_core.specs.Text.{SpellsModule}
@@ -22,7 +22,7 @@ mode_of word =
     else if bytes_eq word (codes "module") then Some «Module»
     else None
 
--- The output and the status are right for the text.
+-- The output and the status are right for the text in the mode.
 abbrev pub ShownText : Mode → List ℕ → List ℕ → ℕ → Type 0
 ShownText FuncType text out status =
     ShowsText (TextSpells false function_type) function_text text out status
@@ -32,6 +32,6 @@ ShownText Folded text out status =
     ShowsText (TextSpells false folded_instruction) expression_text text out status
 ShownText «Module» text out status = ShowsText SpellsModule module_text text out status
 
--- The output and the status are right for the bytes.
+-- The output and the status are right for the bytes in the mode.
 abbrev pub ModeShows : Mode → List ℕ → List ℕ → ℕ → Type 0
 ModeShows mode bytes out status = ShowsBytes (ShownText mode) bytes out status

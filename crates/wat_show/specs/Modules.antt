@@ -5,11 +5,11 @@ use Rattle.wat_show.specs.Fields.{byte_count}
 use Rattle.wat_show.specs.Words.{counted}
 use Rattle.wat_show.specs.Fields.{field_text}
 
--- `text`, how many fields, and below that what is listed of them
+-- `text`, the number of fields, and then the listings of the fields
 abbrev pub text_lines : ℕ → List ℕ → List ℕ
 text_lines count fields = counted (codes "module text ") count ++ fields
 
--- `binary`, and how many bytes the pieces have together
+-- `binary`, and the total number of bytes of the pieces
 abbrev pub binary_line : List (List ℕ) → List ℕ
 binary_line pieces = counted (codes "module binary ") (byte_count pieces)
 

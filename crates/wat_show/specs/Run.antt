@@ -1,4 +1,4 @@
--- What a run promises.
+-- The contract of a run.
 use Rattle.std.specs.Prelude.{◌≡◌, ◌↔◌, ◌⊎◌, ℕ, List, Option, Result, IsTrue, IfOk, IsErrOf}
 use Rattle.std.specs.Io.KnownBytes.{Appends}
 use Rattle.wat_show.specs.Streams.{ReadsAll, ReadsOn, AppendsBeginning}
@@ -6,14 +6,14 @@ use Rattle.wat_show.specs.declared.error.RunError.{RunError}
 use Rattle.wat_show.specs.declared.error.RunError.TheVariants.{Read, Write, Memory}
 use Rattle.wat_show.specs.declared.watched.Watched.{Watched}
 
--- A run, which went from the reader r and the writer w to r' and w', answered `result`. `remaining`
--- and `contents` tell what a reader has left and what a writer holds, and `shows bytes out status`
--- that the output and the status are right for the bytes.
--- shown: the reader was read to its end, and what is shown of its bytes was written
--- cut_short: a write failed after a beginning of that
--- unwritten: at another error nothing was written
--- read_on: of the reader some bytes were read
--- read, write: the error tells which call failed
+-- A run returned `result`. It took the reader from r to r', and the writer from w to w'. `remaining`
+-- returns the bytes that a reader has left, and `contents` the bytes that a writer holds. `shows bytes
+-- out status` holds if the output and the status are right for the bytes.
+-- shown: if the run is Ok, all input was read, and the output for the input was written
+-- cut_short: if a write failed, a prefix of the output was written
+-- unwritten: for any other error, nothing was written
+-- read_on: some bytes of the reader were read
+-- read, write: the error shows whether a read or a write failed
 pub record Runs {R W : Type 0} (remaining : R → Option (List ℕ)) (contents : W → Option (List ℕ))
     (shows : List ℕ → List ℕ → ℕ → Type 0) (result : Result ℕ RunError) (r r' : Watched R)
     (w w' : Watched W) : Type 0 where

@@ -1,4 +1,4 @@
--- What the program writes.
+-- The output of the program.
 use Rattle.std.specs.Prelude.{◌≡◌, ◌≢◌, ◌⊎◌, ℕ, List, ◌++◌, codes, decimal}
 use Rattle.std.specs.Str.{IsUtf8}
 use Rattle.wat_tokens.specs.Error.{Fault, Memory, Utf8}
@@ -15,19 +15,19 @@ abbrev pub ShowsValue : {A : Type 0} → (List ℕ → A → Type 0) → (A → 
 ShowsValue spelled listing text out status =
     (v : _) × spelled text v × (out ≡ listing v) × (status ≡ 0)
 
--- some fault other than Memory, with status 1, where the text spells no value
+-- the line of a fault other than Memory, with status 1, if the text spells no value
 abbrev pub ShowsFault : {A : Type 0} → (List ℕ → A → Type 0) → List ℕ → List ℕ → ℕ → Type 0
 ShowsFault spelled text out status =
     ((v : _) → spelled text v → ⊥)
     × ((f : Fault) × (offset : ℕ) × (f ≢ Memory) × (out ≡ refusal f offset)) × (status ≡ 1)
 
--- the one or the other
+-- the listing of a value, or the line of a fault
 abbrev pub ShowsText : {A : Type 0} → (List ℕ → A → Type 0) → (A → List ℕ) → List ℕ → List ℕ → ℕ
     → Type 0
 ShowsText spelled listing text out status =
     ShowsValue spelled listing text out status ⊎ ShowsFault spelled text out status
 
--- of bytes that are UTF-8 what is shown of their text, of others `refused Utf8 at 0` with status 1
+-- for bytes that are UTF-8, the output for their text; for other bytes, `refused Utf8 at 0` with status 1
 abbrev pub ShowsBytes : (List ℕ → List ℕ → ℕ → Type 0) → List ℕ → List ℕ → ℕ → Type 0
 ShowsBytes shows bytes out status =
     (IsUtf8 bytes × shows bytes out status)

@@ -7,12 +7,12 @@ use Rattle.wat_types.specs.Reference.{RefTy}
 use Rattle.wat_types.specs.Value.{ValTy, i32, i64, f32, f64, v128, ref}
 use Rattle.wat_types.specs.Group.{FuncTy, ParamTy}
 
--- its number, or `$` and its name
+-- the number of an index, or `$` and its name
 abbrev pub index_text : Idx → List ℕ
 index_text (number n) = decimal n
 index_text (name n) = codes "$" ++ n
 
--- a text between what opens it and `)`
+-- a text after `front` and before `)`
 abbrev pub within : List ℕ → List ℕ → List ℕ
 within front text = front ++ (text ++ codes ")")
 
@@ -27,7 +27,7 @@ heap_text (abstract_ false t) = abstract_word t
 abbrev pub ref_text : RefTy → List ℕ
 ref_text r = within (if r.nullable then codes "(ref null " else codes "(ref ") (heap_text r.heap)
 
--- its word, or that of the reference
+-- the word of a value type, or the text of a reference type
 abbrev pub val_text : ValTy → List ℕ
 val_text i32 = codes "i32"
 val_text i64 = codes "i64"
@@ -36,14 +36,14 @@ val_text f64 = codes "f64"
 val_text v128 = codes "v128"
 val_text (ref r) = ref_text r
 
--- each type behind a space
+-- a space before each type
 abbrev pub types_text : List ValTy → List ℕ
 types_text ts = flat_map (λ t. codes " " ++ val_text t) ts
 
 abbrev pub param_types : List ParamTy → List ValTy
 param_types ps = map (λ p. p.ty) ps
 
--- `params` and `results`, each with its types on a line
+-- two lines: `params` with the types of the parameters, `results` with the types of the results
 abbrev pub function_text : FuncTy → List ℕ
 function_text f =
     codes "params" ++ (types_text (param_types f.params)

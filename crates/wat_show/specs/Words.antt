@@ -1,6 +1,6 @@
--- What is added to an output.
+-- Additions to an output.
 use Rattle.std.specs.Prelude.{ℕ, List, ◌++◌, codes, decimal}
 
--- words and a number, on a line
+-- a line: words and a number
 abbrev pub counted : List ℕ → ℕ → List ℕ
 counted words n = words ++ (decimal n ++ codes "\n")

@@ -14,7 +14,7 @@ use std::alloc::{AllocError, Global};
 use wat_expr::{BranchHint, Expression};
 use wat_instr::Instruction;
 
-/// Adds a space and the operand, where that is an index, an i32 or an i64.
+/// Adds a space and the operand, if the operand is an index, an i32 or an i64.
 #[inline(always)]
 fn add_operand(out: &mut Vec<u8>, instr: &Instruction) -> Result<(), AllocError>
     ensures { OnOk result (out.new.items ≡ out.old.items ++ shown_operand (op_in instr.now)
@@ -37,8 +37,8 @@ fn add_operand(out: &mut Vec<u8>, instr: &Instruction) -> Result<(), AllocError>
     }
 }
 
-/// Appends the mnemonic of an instruction, and its operand after a space if that is an index, an
-/// i32 or an i64.
+/// Appends the mnemonic of an instruction. If the operand is an index, an i32 or an i64, appends a
+/// space and the operand too.
 #[inline(always)]
 pub fn add_instruction(out: &mut Vec<u8>, instr: &Instruction) -> Result<(), AllocError>
     ensures { OnOk result (out.new.items ≡ out.old.items ++ instr_text
@@ -48,7 +48,7 @@ pub fn add_instruction(out: &mut Vec<u8>, instr: &Instruction) -> Result<(), All
     add_operand(out, instr)
 }
 
-/// Notes a hint at its index, where none is noted there yet.
+/// Records a hint at its index, unless a hint is already recorded there.
 fn mark(marks: &mut Vec<Option<u32>>, hint: &BranchHint)
     ensures count { length marks.new.items ≡ length marks.old.items }
     ensures marks { (hints : List (ℕ × ℕ)) → AreMarks hints marks.old.items
@@ -64,7 +64,7 @@ fn mark(marks: &mut Vec<Option<u32>>, hint: &BranchHint)
     marks[index] = Some(hint.value);
 }
 
-/// For each index below `count`, the value of the first hint that has it.
+/// Returns, for each index below `count`, the value of the first hint for this index.
 pub(crate) fn marks_of(
     alloc: Global,
     count: usize,
@@ -93,7 +93,7 @@ fn add_hint(out: &mut Vec<u8>, hint: Option<u32>) -> Result<(), AllocError>
     }
 }
 
-/// Adds a prefix, an instruction and its hint, on a line.
+/// Adds a line: a prefix, an instruction and its hint.
 #[inline(always)]
 fn add_line(
     out: &mut Vec<u8>,
@@ -110,7 +110,7 @@ fn add_line(
     add_byte(out, b'\n')
 }
 
-/// Adds instructions, one a line behind the prefix, each with what is noted at its index.
+/// Adds instructions, each on a line after the prefix and with the hint recorded for its index.
 fn add_lines(
     out: &mut Vec<u8>,
     front: &str,
@@ -127,7 +127,7 @@ fn add_lines(
     Ok(())
 }
 
-/// Adds instructions without hints, one a line behind the prefix.
+/// Adds instructions without hints, each on a line after the prefix.
 #[inline(always)]
 fn add_plain_lines(out: &mut Vec<u8>, front: &str, instrs: &[Instruction]) -> Result<(), AllocError>
     ensures { OnOk result (out.new.items ≡ out.old.items ++ lines front.now (hint_at []) 0
@@ -139,8 +139,8 @@ fn add_plain_lines(out: &mut Vec<u8>, front: &str, instrs: &[Instruction]) -> Re
     Ok(())
 }
 
-/// Adds the instructions of an expression, one a line behind the prefix, each with the hint that
-/// has its index.
+/// Adds the instructions of an expression, each on a line after the prefix and with the first hint
+/// for its index.
 #[inline(always)]
 fn add_lines_of(out: &mut Vec<u8>, front: &str, expression: &Expression) -> Result<(), AllocError>
     ensures { OnOk result (out.new.items ≡ out.old.items ++ lines_of front.now
@@ -157,7 +157,7 @@ fn add_lines_of(out: &mut Vec<u8>, front: &str, expression: &Expression) -> Resu
     add_lines(out, front, &expression.instrs, &marks)
 }
 
-/// Appends the instructions of an expression, one on each line, each with the first hint for its
+/// Appends the instructions of an expression, each on a line and with the first hint for its
 /// index.
 pub fn add_expression(out: &mut Vec<u8>, expression: &Expression) -> Result<(), AllocError>
     ensures { OnOk result (out.new.items ≡ out.old.items ++ expression_text

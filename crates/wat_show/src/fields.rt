@@ -33,12 +33,12 @@ use wat_fields::{
 use wat_links::{Custom, ExportKind, ImportItems};
 use wat_tokens::Index;
 
-/// A piece that holds bytes.
+/// A piece of a string of bytes.
 pub(crate) trait Piece {
-    /// Its bytes.
+    /// The bytes of the piece.
     ghost bytes: { Self → List ℕ };
 
-    /// How many they are.
+    /// Returns the number of bytes.
     fn count(&self) -> usize
         ensures { result ≡ length (bytes self.now) };
 }
@@ -59,8 +59,8 @@ impl<'a> Piece for DataVal<'a> {
     }
 }
 
-/// How many bytes the pieces have together. Pieces may share their bytes, so they may be more than
-/// memory has.
+/// Returns the total number of bytes of the pieces. Pieces may share bytes, so the total may be larger
+/// than memory.
 pub(crate) fn total<P: Piece>(pieces: &[P]) -> u128
     ensures { result ≡ byte_count (map P.bytes pieces.now) }
 {
@@ -136,7 +136,7 @@ pub fn add_tag(out: &mut Vec<u8>, kind: &TagKind) -> Result<(), AllocError>
     }
 }
 
-/// Adds what a payload holds, indices or expressions, and how many.
+/// Adds the line of a payload: `indices` or `exprs`, and their number.
 fn add_payload_line(out: &mut Vec<u8>, payload: &ElemPayload) -> Result<(), AllocError>
     ensures { OnOk result (out.new.items ≡ out.old.items ++ payload_line
         (payload_view payload.now)) }
@@ -147,7 +147,7 @@ fn add_payload_line(out: &mut Vec<u8>, payload: &ElemPayload) -> Result<(), Allo
     }
 }
 
-/// Adds the lines of expressions below another line, in order.
+/// Adds the lines of expressions in order, each indented by two spaces.
 fn add_all_below(out: &mut Vec<u8>, expressions: &[Expression]) -> Result<(), AllocError>
     ensures { OnOk result (out.new.items ≡ out.old.items ++ all_below
         (map expression_view expressions.now)) }
@@ -190,7 +190,7 @@ pub fn add_table(out: &mut Vec<u8>, kind: &TableKind) -> Result<(), AllocError>
     }
 }
 
-/// Adds the word of where a segment is put.
+/// Adds `elem`, and the word for the kind of an element segment.
 fn add_elem_word(out: &mut Vec<u8>, kind: &ElemKind) -> Result<(), AllocError>
     ensures { OnOk result (out.new.items ≡ out.old.items ++ elem_word (elem_kind_view kind.now)) }
 {
@@ -201,7 +201,7 @@ fn add_elem_word(out: &mut Vec<u8>, kind: &ElemKind) -> Result<(), AllocError>
     }
 }
 
-/// Adds the lines of a segment's offset.
+/// Adds the lines of the offset of an element segment, if it has an offset.
 fn add_elem_offset(out: &mut Vec<u8>, kind: &ElemKind) -> Result<(), AllocError>
     ensures { OnOk result (out.new.items ≡ out.old.items ++ offset_lines
         (elem_kind_view kind.now)) }

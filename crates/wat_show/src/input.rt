@@ -1,4 +1,4 @@
-//! Reading to the end.
+//! Reading all input.
 ghost use Rattle.std.specs.Prelude.{◌≡◌, ◌↔◌, ◌⊎◌, IsTrue, IfOk, OnErr, IsErrOf};
 ghost use Rattle.wat_show.specs.Streams.{ReadsAll, ReadsOn};
 
@@ -7,8 +7,8 @@ use crate::watched::Watched;
 use std::alloc::Global;
 use std::io::Read;
 
-/// Reads to the end: to the first read that gives nothing. A read that gives less than it was asked
-/// for is not the end.
+/// Reads all input, up to the first read that returns 0 bytes. A read that returns fewer bytes than
+/// requested is not the end.
 pub(crate) fn read_all<R: Read>(alloc: Global, reader: &mut Watched<R>) -> Result<Vec<u8>, RunError>
     ensures all { IfOk result (λ bytes.
         ReadsAll (R.remaining reader.old.inner) (R.remaining reader.new.inner) bytes.items) }

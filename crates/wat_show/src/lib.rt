@@ -5,14 +5,14 @@
 //!   parts.
 #![tactic(auto)]
 
-// The listing: what is added to an output.
+// The listing.
 pub mod expressions;
 pub mod fields;
 pub mod modules;
 pub mod types;
 mod words;
 
-// What is read from and written to.
+// The input and the output.
 mod input;
 pub mod output;
 pub mod watched;

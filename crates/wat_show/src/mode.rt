@@ -66,7 +66,7 @@ impl Mode {
     }
 }
 
-/// What is shown of a text in a mode.
+/// Returns the whole output for a text in a mode, and the exit status.
 fn show_in(mode: Mode, alloc: Global, text: &str) -> Result<(Vec<u8>, u8), AllocError>
     ensures { IfOk result (λ made. ShownText mode text.now made.0.items made.1) }
 {
@@ -80,10 +80,10 @@ fn show_in(mode: Mode, alloc: Global, text: &str) -> Result<(Vec<u8>, u8), Alloc
 }
 
 /// Reads all input, makes the whole output (see [`Mode::show`]), and then writes it. Returns the
-/// exit status: 0 if the input is a value of the mode, else 1. It doesn't flush the writer.
+/// exit status: 0 if the input is a value of the mode, else 1. The writer isn't flushed.
 ///
-/// If the error is [`RunError::Write`], a prefix of the output is written. At another error nothing
-/// is.
+/// If the error is [`RunError::Write`], a prefix of the output is written. For any other error
+/// nothing is written.
 pub fn run<R: Read, W: Write>(
     alloc: Global,
     mode: Mode,

@@ -11,7 +11,7 @@ use crate::words::add_counted;
 use std::alloc::AllocError;
 use wat_core::{Module, ModuleField, ModuleKind};
 
-/// Adds what is listed of fields, in order.
+/// Adds the listings of fields, in order.
 fn add_fields(out: &mut Vec<u8>, fields: &[ModuleField]) -> Result<(), AllocError>
     ensures { OnOk result (out.new.items ≡ out.old.items ++ flat_map field_text
         (map field_view fields.now)) }
@@ -22,7 +22,7 @@ fn add_fields(out: &mut Vec<u8>, fields: &[ModuleField]) -> Result<(), AllocErro
     Ok(())
 }
 
-/// Adds the line of what is in a module, and below it what is listed of its fields.
+/// Adds the line of a module, and then the listings of its fields.
 fn add_kind(out: &mut Vec<u8>, kind: &ModuleKind) -> Result<(), AllocError>
     ensures { OnOk result (out.new.items ≡ out.old.items ++ kind_text
         (module_kind_view kind.now)) }

@@ -1,4 +1,4 @@
-//! Writing a whole output.
+//! Writing the whole output.
 ghost use Rattle.std.specs.Prelude.{◌≡◌, ◌↔◌, ◌⊎◌, IsTrue, IsErr, OnOk, OnErr, IsOkUnless};
 ghost use Rattle.std.specs.Io.KnownBytes.{Appends};
 ghost use Rattle.wat_show.specs.Streams.{AppendsBeginning};
@@ -7,9 +7,9 @@ use crate::error::RunError;
 use crate::watched::Watched;
 use std::io::Write;
 
-/// Writes all of `out`. It doesn't flush the writer.
+/// Writes all of `out`. The writer isn't flushed.
 ///
-/// Returns [`RunError::Write`] if a write fails or writes nothing. Then a prefix of `out` is
+/// Returns [`RunError::Write`] if a write fails or writes nothing. In this case a prefix of `out` is
 /// written.
 pub fn write_all_of<W: Write>(writer: &mut Watched<W>, out: &[u8]) -> Result<(), RunError>
     ensures all { OnOk result

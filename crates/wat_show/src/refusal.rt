@@ -1,4 +1,4 @@
-//! What the program shows of a text that is refused.
+//! The output for a text that is refused.
 
 ghost use Rattle.std.specs.Prelude.{◌≡◌, ◌≢◌, IfOk};
 ghost use Rattle.wat_show.specs.Shown.{refusal};
@@ -9,7 +9,8 @@ use crate::words::{add, add_number};
 use std::alloc::{AllocError, Global};
 use wat_tokens::{Error, Fault};
 
-/// The one line of a refusal, and its status. Want of memory has none.
+/// Returns the line of a refusal, and the exit status 1. If the refusal is out of memory, returns the
+/// error.
 pub(crate) fn refused(alloc: Global, error: Error) -> Result<(Vec<u8>, u8), AllocError>
     ensures fault { IfOk result (λ made. error.fault ≢ Memory) }
     ensures line { IfOk result (λ made. made.0.items ≡ refusal error.fault (offset_of error.span)) }

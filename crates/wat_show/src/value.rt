@@ -1,4 +1,4 @@
-//! What is shown of a text that is to be a value.
+//! The output for a text that is parsed as a value.
 
 ghost use Rattle.std.specs.Prelude.{◌≡◌, ◌++◌, ℕ, List, false, OnOk, IfOk, MatchResult};
 ghost use Rattle.wat_core.specs.Module.{ModuleTy, module_view};
@@ -29,18 +29,19 @@ use wat_types::FunctionType;
 
 /// A type whose values are read from a text and listed.
 pub(crate) trait Listed<'a>: Sized {
-    /// What contracts see of a value.
+    /// The type of the view of a value in contracts.
     ghost View: { Type 0 };
 
     ghost view: { Self → View };
 
-    /// The text spells the value.
+    /// Holds if the text spells the value.
     ghost spelled: { List ℕ → View → Type 0 };
 
-    /// What is listed of the value.
+    /// The listing of a value.
     ghost listing: { View → List ℕ };
 
-    /// Reads the value that the text spells. It is refused with the first fault that is met.
+    /// Reads the value that the text spells. If the text spells no value, the error is the first fault
+    /// that is met.
     fn read(alloc: Global, text: &'a str, arena: &'a Bump) -> Result<Self, Error>
         ensures found { IfOk result (λ v. spelled text.now (view v)) }
         ensures only { (v : View) → spelled text.now v
@@ -123,7 +124,7 @@ impl<'a> Listed<'a> for Module<'a> {
     }
 }
 
-/// What is shown of a text that is to be a value of the type.
+/// Returns the output for a text that is parsed as a value of the type, and the exit status.
 pub(crate) fn show_value<'a, T: Listed<'a> + Drop>(
     alloc: Global,
     text: &'a str,

@@ -44,7 +44,7 @@ impl<T> Watched<T> {
 impl<R: Read> Read for Watched<R> {
     ghost remaining = { λ watched. R.remaining watched.inner };
 
-    /// Calls `read` of the inner reader once, and returns its result. Sets `failed` if that is an
+    /// Calls `read` of the inner reader once, and returns its result. Sets `failed` if the result is an
     /// error.
     fn read(&mut self, buf: &mut [u8]) -> io::Result<usize>
         ensures bound { ReadsAtMost result buf.new }
@@ -63,8 +63,8 @@ impl<R: Read> Read for Watched<R> {
 impl<W: Write> Write for Watched<W> {
     ghost contents = { λ watched. W.contents watched.inner };
 
-    /// Calls `write` of the inner writer once, and returns its result. Sets `failed` if that is an
-    /// error, or if nothing of a `buf` that isn't empty is written.
+    /// Calls `write` of the inner writer once, and returns its result. Sets `failed` if the result is an
+    /// error, or if 0 bytes of a `buf` that isn't empty are written.
     fn write(&mut self, buf: &[u8]) -> io::Result<usize>
         ensures bound { WritesAtMost result buf.now }
         ensures bytes { WriteAppends (W.contents self.old.inner) (W.contents self.new.inner)

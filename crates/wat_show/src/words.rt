@@ -56,7 +56,7 @@ fn add_large(out: &mut Vec<u8>, number: u128) -> Result<(), AllocError>
     add(out, digits.as_str())
 }
 
-/// Adds words and a number in decimal digits, on a line.
+/// Adds a line: words and a number in decimal digits.
 pub(crate) fn add_counted(out: &mut Vec<u8>, words: &str, number: u128) -> Result<(), AllocError>
     ensures { OnOk result (out.new.items ≡ out.old.items ++ counted words.now number) }
 {

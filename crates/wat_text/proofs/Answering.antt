@@ -1,4 +1,4 @@
--- What a refusal means, and what is printed.
+-- Refusals, and printed modules.
 use Rattle.std.proofs.Common.{◌≡◌, ℕ, List, [], ◌∷◌, ◌++◌, ◌∙◌, Ok, Err, inr}
 use Rattle.std.specs.Prelude.{true, ◌≢◌, Result, IfOk, IfErr, MatchResult}
 use Rattle.wat_text.specs.Outcomes.{IsAnswer, AnswersText, WasRead}
@@ -17,7 +17,7 @@ use Rattle.wat_print.specs.declared.output.Layout.TheVariants.{Line}
 use Rattle.wat_print_module.specs.Module.{spell_module_group}
 use Rattle.wat_report.specs.Report.{IsReport}
 
--- a fault that isn't the one that a text which spells a value may have
+-- If a value is spelled, reading can fail only with the error in Q. Any other error shows that no value is spelled.
 pub none_spells : {T E V : Type 0} (S : V → Type 0) (P : V → T → Type 0) (Q : E → Type 0) (r : Result T E) → ((v : V) → S v → MatchResult r (P v) Q) → IfErr r (λ e. (Q e → ⊥) → (v : V) → S v → ⊥)
 none_spells S P Q (Ok x) only = tt
 none_spells S P Q (Err e) only = λ other v s. other (only v s)
@@ -33,7 +33,7 @@ pub answers_print : (layout : Layout) (m : ModuleTy) (text new output : List ℕ
 unfolding IsAnswer
 answers_print layout m text new output spells line added is = (text, spells, line, is ∙ added)
 
--- tokens of a text spell what was read
+-- a module that was read is spelled by tokens of a text
 pub some_spells : (m : ModuleTy) → WasRead m → NoneSpells (paren module_) m → ⊥
 some_spells m (text, u, (ts, cut, s)) none =
     let (b, c, r, e, spells) = group_stands m (tokens_of ts) s in

@@ -1,4 +1,4 @@
--- The diagnostic of an error with other words on what could stand there.
+-- The diagnostic of an error with other words for the expected tokens.
 use Rattle.std.proofs.Common.{◌≡◌, ℕ, List, [], ◌∷◌, length, ◌∙◌, refl, arith}
 use Rattle.wat_core.specs.Error.{Fault}
 use Rattle.wat_report.specs.Diagnostic.{IsDiagnostic}

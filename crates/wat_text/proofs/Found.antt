@@ -19,11 +19,11 @@ use Rattle.wat_text.specs.declared.notice.Notice.{Notice}
 use Rattle.wat_text.specs.declared.notice.Notice.TheVariants.{Found}
 use Rattle.wat_twin.specs.Text.{IsTwin}
 
--- an item that doesn't pass decides nothing
+-- an item that doesn't pass doesn't change the result
 pub no_error_at : {X : Type 0} (p : X → Bool) (xs : List X) (i : ℕ) (d : X) → i < length xs → p (get_or xs i d) ≡ false → list_any p (drop i xs) ≡ list_any p (drop (i + 1) xs)
 no_error_at p xs i d l e = rw (add-one, drop-cons xs i d, e) refl
 
--- what could stand at a fault is no other part of its diagnostic
+-- the words for the expected tokens change no other part of a diagnostic
 pub placed_with : (text : List ℕ) (o : ℕ) (f : Fault) (d : Diagnostic) (words : Vec ℕ Global) → IsDiagnostic text o f d → IsDiagnostic text o f (record d { expected = words })
 placed_with text o f d words (groups, has, p) = (
   groups,
@@ -54,7 +54,7 @@ module _ (text : List ℕ) where
     added ∙ ap (λ (xs : List Notice). xs ++ Found d ∷ []) begun ∙ append_assoc old ns (Found d ∷ []),
   )
 
-  -- es are the errors of the fields, o1 is what is added up to the first of them, and so on
+  -- es are the errors of the fields; o0, o1, .. are the notices before and after each addition
   pub are_notices : (first : Error) (f : FieldFaults) (es : List Error) (lead beside : Option Error) (n : ℕ) (o0 o1 o2 o3 o4 : List Notice) → es ≡ f.faults.items → lead ≡ lead_of first es → beside ≡ beside_of first es f.beside → n ≡ f.count - length es → o0 ≡ [] → AddsDiagnosed text (option_to_list lead) o0 o1 → AddsDiagnosed text es o1 o2 → o3 ≡ o2 ++ more_notices n → AddsDiagnosed text (option_to_list beside) o3 o4 → AreNotices text first f o4
   unfolding AreNotices
   are_notices first f es lead beside n o0 o1 o2 o3 o4 same l b m z (x, led, e) (y, found, g) h (w, besides, k) =
@@ -77,7 +77,7 @@ module _ (text : List ℕ) where
   finds_faults read first f found (Ok x) are is = (f, are, is)
   finds_faults read first f found (Err e) are is = tt
 
-  -- a text that is none for another reason than memory
+  -- a text that isn't a module, if the fault isn't Memory
   pub faults_of_twin : (read : List ℕ) (ns : List Notice) (first : Error) → (first.fault ≢ Memory → (m : ModuleTy) → SpellsModule read m → ⊥) → first.fault ≢ Memory → FindsFaults text read first ns → ChecksTwin text read ns 1
   unfolding ChecksTwin
   faults_of_twin read ns first unless other finds = inr (unless other, (first, other, finds), refl)

@@ -1,4 +1,4 @@
--- What a check of a text finds.
+-- The notices of a check.
 use Rattle.std.specs.Prelude.{◌≡◌, ◌≢◌, ◌⊎◌, ◌++◌, ◌∷◌, ◌-◌, ◌==◌, ◌||◌, ℕ, Bool, true, false}
 use Rattle.std.specs.Prelude.{List, [], length, Option, Some, None, if◌then◌else◌}
 use Rattle.std.specs.List.{list_any}
@@ -23,17 +23,17 @@ use Rattle.wat_text.specs.declared.notice.Notice.{Notice}
 use Rattle.wat_text.specs.declared.notice.Notice.TheVariants.{Found, More}
 use Rattle.wat_twin.specs.Text.{IsTwin}
 
--- ---- which errors are reported
+-- ---- the errors that are reported
 
 -- one of the errors is at the offset
 abbrev pub has_error_at : List Error → ℕ → Bool
 has_error_at es offset = list_any (λ e. offset_of e.span == offset) es
 
--- that for which the text is no module, unless it is one of those of the fields
+-- the error for which the text isn't a module, unless an error of a field is at its offset
 abbrev pub lead_of : Error → List Error → Option Error
 lead_of first es = if has_error_at es (offset_of first.span) then None else Some first
 
--- the error beside the fields, unless an error at its place is reported already
+-- the error after the fields, unless another reported error is at its offset
 abbrev pub beside_of : Error → List Error → Option Error → Option Error
 beside_of first es None = None
 beside_of first es (Some e) =
@@ -42,19 +42,19 @@ beside_of first es (Some e) =
 
 -- ---- their diagnostics
 
--- at such a fault something else could stand
+-- the faults for which another token could be valid
 abbrev pub may_expect : Fault → Bool
 may_expect Unexpected = true
 may_expect Operator = true
 may_expect _ = false
 
--- Only a fault Unexpected or Operator without a hint may have words on what could stand there; which
--- words is not said here.
+-- A diagnostic may list expected tokens only if the fault is Unexpected or Operator and there is no hint.
+-- The clause doesn't describe the listed tokens.
 unfoldable pub MayExpect : Fault → Diagnostic → Type 0
 MayExpect f d =
     (d.expected.items ≡ []) ⊎ ((d.hint.items ≡ []) × (may_expect f ≡ true))
 
--- the diagnostic of an error, with what could stand there
+-- the diagnostic of an error, with the expected tokens
 abbrev pub IsDiagnosticOf : List ℕ → Error → Diagnostic → Type 0
 IsDiagnosticOf text e d = IsDiagnostic text (offset_of e.span) e.fault d × MayExpect e.fault d
 
@@ -73,12 +73,12 @@ AddsFound text e old new =
 abbrev pub AddsDiagnosed : List ℕ → List Error → List Notice → List Notice → Type 0
 AddsDiagnosed text es old new = (ns : List Notice) × Diagnosed text es ns × (new ≡ old ++ ns)
 
--- how many more fields are invalid, if any is
+-- the number of further invalid fields, if it isn't 0
 abbrev pub more_notices : ℕ → List Notice
 more_notices n = if n == 0 then [] else More n ∷ []
 
--- The error for which the text is no module, those of its fields, how many more there are, and the
--- error beside the fields.
+-- The notices, in order: the error for which the text isn't a module, the errors of its fields, the
+-- number of further invalid fields, and the error after the fields.
 unfoldable pub AreNotices : List ℕ → Error → FieldFaults → List Notice → Type 0
 AreNotices text first f ns =
     (lead : List Notice) × (fields : List Notice) × (beside : List Notice)
@@ -87,10 +87,10 @@ AreNotices text first f ns =
     × Diagnosed text (option_to_list (beside_of first f.faults.items f.beside)) beside
     × (ns ≡ lead ++ (fields ++ (more_notices (f.count - length f.faults.items) ++ beside)))
 
--- ---- the whole
+-- ---- the whole check
 
--- the errors of the fields of the text that is read: the first 20 invalid fields have one each, and
--- all invalid fields are counted
+-- the errors of the fields of the text that is read: one error for each of the first 20 invalid fields,
+-- and the number of all invalid fields
 abbrev pub AreFaults : List ℕ → FieldFaults → Type 0
 AreFaults read f =
     (ts : List Placed) × (gs : List Group) × (beside : Option ℕ) × IsCut read ts
@@ -100,15 +100,15 @@ AreFaults read f =
 abbrev pub FindsFaults : List ℕ → List ℕ → Error → List Notice → Type 0
 FindsFaults text read first ns = (f : FieldFaults) × AreFaults read f × AreNotices text first f ns
 
--- the twin is a module, and nothing is found, with status 0; or it is none, and its errors are found,
--- with status 1
+-- status 0 and no notices if the twin is a module; status 1 and the notices of its errors if the twin
+-- isn't a module
 unfoldable pub ChecksTwin : List ℕ → List ℕ → List Notice → ℕ → Type 0
 ChecksTwin text read ns status =
     ((m : ModuleTy) × SpellsModule read m × (ns ≡ []) × (status ≡ 0))
     ⊎ (((m : ModuleTy) → SpellsModule read m → ⊥)
     × ((first : Error) × (first.fault ≢ Memory) × FindsFaults text read first ns) × (status ≡ 1))
 
--- the text has no cut, and its first fault is found, with status 1
+-- the text has no cut; the notice is its first fault, with status 1
 abbrev pub FindsUncut : List ℕ → List Notice → ℕ → Type 0
 FindsUncut text ns status =
     ((ts : List Placed) → IsCut text ts → ⊥)
@@ -116,14 +116,14 @@ FindsUncut text ns status =
     × IsDiagnostic text offset f d × (d.expected.items ≡ []) × (ns ≡ Found d ∷ []))
     × (status ≡ 1)
 
--- a text is checked by its twin, which has integers in place of float literals
+-- the check of a text reads its twin, which has integers in place of float literals
 unfoldable pub ChecksText : List ℕ → List Notice → ℕ → Type 0
 ChecksText text ns status =
     ((read : List ℕ) × IsTwin text read × ChecksTwin text read ns status)
     ⊎ FindsUncut text ns status
 
--- of bytes that are UTF-8 their text is checked, of others the first wrong byte is found, with
--- status 1
+-- the check of bytes: for bytes that are UTF-8, the check of their text; for other bytes, the first wrong
+-- byte, with status 1
 unfoldable pub ChecksBytes : List ℕ → List Notice → ℕ → Type 0
 ChecksBytes bytes ns status =
     (IsUtf8 bytes × ChecksText bytes ns status)

@@ -1,18 +1,18 @@
--- What a check of a text finds, as a report and as JSON.
+-- The notices of a check, as a report and as JSON.
 use Rattle.std.specs.Prelude.{ℕ, List, ◌++◌, codes, decimal}
 use Rattle.wat_report.specs.Json.{json_head, json_number, json_text}
 use Rattle.wat_report.specs.Report.{report_text}
 use Rattle.wat_text.specs.declared.notice.Notice.{Notice}
 use Rattle.wat_text.specs.declared.notice.Notice.TheVariants.{Found, More}
 
--- how many more fields are invalid
+-- the number of further invalid fields
 abbrev pub more_words : ℕ → List ℕ
 more_words n = decimal n ++ codes " more fields are invalid"
 
 abbrev pub more_line : List ℕ → ℕ → List ℕ
 more_line name n = name ++ (codes ": error: " ++ (more_words n ++ codes "\n"))
 
--- the object `{"file":FILE,"more":N}` on a line
+-- a line with the object `{"file":FILE,"more":N}`
 abbrev pub more_json : List ℕ → ℕ → List ℕ
 more_json file n = json_head file ++ (json_number (codes "more") n ++ codes "}\n")
 

@@ -16,8 +16,8 @@ use Rattle.wat_text.specs.Checked.{ChecksBytes}
 use Rattle.wat_text.specs.Formatted.{ReportsWrongByte}
 use Rattle.wat_text.specs.Notices.{notice_json, notice_report}
 
--- The answer for a module: nothing; the listing of `watshow module`; or a text that spells the module,
--- and a line break. In Layout Line that text is the text of its tokens.
+-- The answer for a module: no output; the listing of `watshow module`; or a text that spells the module,
+-- and a line break. In the layout Line, the text is the text of the tokens of the module.
 unfoldable pub IsAnswer : Task → ModuleTy → List ℕ → Type 0
 IsAnswer Check m output = output ≡ []
 IsAnswer Json m output = output ≡ []
@@ -30,7 +30,7 @@ IsAnswer (Print layout) m output =
 abbrev pub WasRead : ModuleTy → Type 0
 WasRead m = (text : List ℕ) × IsUtf8 text × SpellsModule text m
 
--- the text spells a module: the answer is that for the module, with status 0
+-- the text spells a module: the answer is the answer for the module, with status 0
 abbrev pub AnswersModule : Task → List ℕ → List ℕ → ℕ → Type 0
 AnswersModule task text output status =
     (m : ModuleTy) × SpellsModule text m × IsAnswer task m output × (status ≡ 0)
@@ -47,8 +47,8 @@ unfoldable pub AnswersText : Task → List ℕ → List ℕ → List ℕ → ℕ
 AnswersText task name text output status =
     AnswersModule task text output status ⊎ AnswersFault name text output status
 
--- the answer for bytes: that for their text if they are UTF-8, or else the report of the first wrong
--- byte, with status 1
+-- the answer for bytes: the answer for their text if the bytes are UTF-8, otherwise the report of the first
+-- wrong byte, with status 1
 unfoldable pub AnswersReadBytes : Task → List ℕ → List ℕ → List ℕ → ℕ → Type 0
 AnswersReadBytes task name bytes output status =
     (IsUtf8 bytes × AnswersText task name bytes output status)
@@ -59,7 +59,8 @@ abbrev pub AnswersFound : (Notice → List ℕ) → List ℕ → List ℕ → �
 AnswersFound written bytes output status =
     (ns : List Notice) × ChecksBytes bytes ns status × (output ≡ flat_map written ns)
 
--- A text is checked, as a report or as JSON; or it is read as it is, and listed or printed.
+-- The tasks Check and Json check the text and return its notices. The other tasks read the text itself, not
+-- its twin, and list or print the module.
 unfoldable pub AnswersBytes : Task → List ℕ → List ℕ → List ℕ → ℕ → Type 0
 AnswersBytes Check name bytes output status = AnswersFound (notice_report name) bytes output status
 AnswersBytes Json name bytes output status = AnswersFound (notice_json name) bytes output status

@@ -1,4 +1,4 @@
-//! A check of a text: whether it is a module, and the errors if it isn't.
+//! The check whether a text is a module, and the errors of a text that isn't a module.
 
 ghost use Rattle.std.specs.Prelude.{◌≡◌, ◌++◌, ◌∷◌, [], List, IfOk, OnOk};
 ghost use Rattle.std.specs.Option.{option_to_list};
@@ -49,7 +49,7 @@ fn lead_of(first: Error, errors: &[Error]) -> Option<Error>
     Some(first)
 }
 
-/// Returns the error beside the fields, unless another reported error is at its offset.
+/// Returns the error after the fields, unless another reported error is at its offset.
 fn beside_of(first: Error, errors: &[Error], beside: Option<Error>) -> Option<Error>
     ensures { result ≡ beside_of first errors.now beside }
 {
@@ -61,7 +61,7 @@ fn beside_of(first: Error, errors: &[Error], beside: Option<Error>) -> Option<Er
     Some(error)
 }
 
-/// Returns whether other tokens could stand in place of the one with the error.
+/// Returns whether another token in place of the token with the error could be valid.
 fn may_expect(fault: Fault) -> bool
     ensures { result ≡ may_expect fault }
 {
@@ -247,7 +247,8 @@ fn one_notice(alloc: Global, diagnostic: Diagnostic) -> Result<Vec<Notice>, Allo
     Ok(notices)
 }
 
-/// Returns the notices for a text without a cut, whose first error this is, and the status.
+/// Returns the notices for a text without a cut, and the status. `error` is the first error of the
+/// text.
 fn notices_of_uncut(
     alloc: Global,
     text: &str,
@@ -277,15 +278,15 @@ fn notices_of_text(alloc: Global, text: &str) -> Result<(Vec<Notice>, u8), Alloc
     }
 }
 
-/// Checks bytes: returns what is found, and the status.
+/// Checks bytes. Returns the notices and the status.
 ///
-/// The status is 0, and nothing is found, if the bytes are the text of a module. A float literal is
-/// checked by its spelling only. Otherwise the status is 1. If the bytes aren't UTF-8, the first
-/// wrong byte is found; if the text has invalid tokens, its first error is found. Otherwise these
-/// are found, in order:
+/// If the bytes are the text of a module, the status is 0 and there are no notices. A float literal
+/// is checked by its spelling only. Otherwise the status is 1. If the bytes aren't UTF-8, the notice
+/// is the first wrong byte. If the text has invalid tokens, the notice is the first error of the
+/// text. Otherwise the notices are, in order:
 ///
 /// - the first error of the text, unless it is the error of a field;
-/// - the first error of each of the first 20 invalid fields;
+/// - an error in each of the first 20 invalid fields;
 /// - the number of further invalid fields, if there are any;
 /// - an error after the fields, if there is one.
 ///

@@ -1,8 +1,8 @@
 //! The tokens that are possible in place of a token with an error.
 //!
-//! The parser finds them: the text up to the error is parsed with each candidate after it. A
-//! candidate is possible if the text is then refused at its end, or not at all. No clause says so,
-//! since no contract describes the position of a fault.
+//! The parser finds these tokens: it parses the text up to the error with each candidate after it. A
+//! candidate is possible if the text is then refused at its end, or not at all. This is not proved:
+//! no contract describes the position of a fault.
 
 use crate::outcome::module_of;
 use crate::shortened::short_text;
@@ -13,7 +13,7 @@ use wat_core::wat_lexer::tokens::Tokens;
 use wat_core::{Error, Fault, module_faults};
 use wat_report::FIELD_WORDS;
 
-/// A candidate that isn't a word that begins a group.
+/// A kind of token as a candidate. Words that begin a group aren't kinds.
 #[derive(Clone, Copy)]
 enum Kind {
     Open,
@@ -38,7 +38,7 @@ const KINDS: [Kind; 8] = [
 ];
 
 impl Kind {
-    /// Returns its name in the line `expected: ..`.
+    /// Returns the name of the kind in the line `expected: ..`.
     fn name(self) -> &'static str {
         match self {
             Kind::Open => "`(`",
@@ -67,11 +67,12 @@ impl Kind {
     }
 }
 
-/// The number of bytes that are parsed with each candidate, at most. After a longer field no
+/// The maximum number of bytes that are parsed with each candidate. After a longer field, no
 /// candidate is tried.
 const LONGEST: usize = 65_536;
 
-/// A field of more bytes before the error is shortened before it is read again.
+/// The maximum number of bytes before the error in a field. A longer field is shortened before it is
+/// read again.
 const SHORT: usize = 1_024;
 
 /// The groups that are open after some tokens.
@@ -83,7 +84,7 @@ struct Opened {
     depth: usize,
     /// The offset of the first group within another, in bytes, if there is one.
     first_field: Option<usize>,
-    /// The index of the last token `(` of a group that is within one other.
+    /// The index of the last token `(` that opens a group within exactly one other group.
     last_field: usize,
     /// Whether the last token is a `(`.
     behind_paren: bool,
@@ -128,7 +129,7 @@ impl Opened {
     }
 }
 
-/// Returns the offset of the token at an index, in bytes, or 0 if there is none.
+/// Returns the offset of the token at an index, in bytes, or 0 if there is no such token.
 fn offset_at(tokens: &Tokens, index: usize) -> usize {
     if index < tokens.len() {
         tokens.offset(index)
@@ -156,11 +157,11 @@ fn opened_at(tokens: &Tokens, at: usize) -> Opened {
     opened
 }
 
-/// A text up to an error, without what needn't be read again.
+/// A text up to an error, without the parts that needn't be read again.
 #[derive(Drop)]
 struct Front {
     text: String,
-    /// Whether the error is in a field: then that one alone is in the text.
+    /// Whether the error is in a field. If it is, the text contains only this field.
     in_field: bool,
     /// Whether the last token is a `(`.
     behind_paren: bool,
@@ -171,7 +172,8 @@ fn field_front(alloc: Global, text: &str, from: usize) -> Result<String, AllocEr
     format!(in alloc; "(module {}", text.get(from..).unwrap_or(""))
 }
 
-/// Returns a short text for a field up to an error, unless it doesn't begin a field.
+/// Returns a short text for a field up to an error. Returns `None` if the short text doesn't begin a
+/// field.
 fn short_front(
     alloc: Global,
     text: &str,
@@ -207,7 +209,8 @@ fn in_field(
     Ok(Some(field_front(alloc, text, from)?))
 }
 
-/// Returns the text up to an error that is in no field, with one field for those before it.
+/// Returns the text up to an error outside all fields, with one field in place of the fields before
+/// the error.
 fn in_no_field(alloc: Global, text: &str, opened: Opened) -> Result<Option<String>, AllocError> {
     if opened.first_field.unwrap_or(text.len()) > LONGEST {
         return Ok(None);
@@ -265,7 +268,7 @@ fn begins_module(alloc: Global, text: &str) -> Result<bool, AllocError> {
     }
 }
 
-/// Returns whether the one field of the text is a field, or begins one at the end of the text.
+/// Returns whether the one field in the text is valid, or is refused only at the end of the text.
 fn begins_field(alloc: Global, text: &str) -> Result<bool, AllocError> {
     let arena = Bump::new(alloc);
     match module_faults(alloc, text, &arena, 1) {
@@ -277,7 +280,7 @@ fn begins_field(alloc: Global, text: &str) -> Result<bool, AllocError> {
     }
 }
 
-/// Returns whether a candidate could stand after the text.
+/// Returns whether a candidate is possible after the text.
 fn goes_on(alloc: Global, front: &Front, with: &str) -> Result<bool, AllocError> {
     let text = format!(in alloc; "{} {with}", front.text)?;
     if front.in_field {
@@ -295,8 +298,8 @@ fn add_item(list: &mut String, item: &str) -> Result<(), AllocError> {
     list.push_str(item)
 }
 
-/// Adds the candidates that could stand after the text, without words. A reference type isn't added
-/// if a value type is.
+/// Adds the candidates that are possible after the text, without words. A reference type isn't added
+/// if a value type is added.
 fn add_kinds(list: &mut String, front: &Front) -> Result<(), AllocError> {
     for kind in KINDS {
         let is_named = matches!(kind, Kind::ReferenceType)
@@ -308,7 +311,7 @@ fn add_kinds(list: &mut String, front: &Front) -> Result<(), AllocError> {
     Ok(())
 }
 
-/// Adds the word if it could begin a group after the text, or go on with the group that is begun.
+/// Adds the word if the word can begin a group after the text, or continue the group that is begun.
 fn add_word(list: &mut String, front: &Front, word: &str) -> Result<(), AllocError> {
     let alloc = *list.allocator();
     let open = if front.behind_paren { "" } else { "(" };
@@ -319,7 +322,7 @@ fn add_word(list: &mut String, front: &Front, word: &str) -> Result<(), AllocErr
     Ok(())
 }
 
-/// Adds the words that could begin a group after the text, or go on with the group that is begun.
+/// Adds the words that can begin a group after the text, or continue the group that is begun.
 fn add_words(list: &mut String, front: &Front) -> Result<(), AllocError> {
     add_word(list, front, "module")?;
     for field in FIELD_WORDS {
@@ -331,8 +334,9 @@ fn add_words(list: &mut String, front: &Front) -> Result<(), AllocError> {
     Ok(())
 }
 
-/// Returns the words for what could stand at an offset of a text, in place of the token there. They
-/// are empty if that isn't known. The tokens are those of the text, or of the text whose twin it is.
+/// Returns the words for the tokens that are possible at an offset of a text, in place of the token
+/// there. The words are empty if no such tokens are known. `tokens` are the tokens of the text, or of
+/// the text whose twin it is.
 pub(crate) fn expected_at(
     alloc: Global,
     read: &str,

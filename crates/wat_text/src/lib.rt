@@ -1,8 +1,10 @@
-//! The answers for one text: whether it is a module and where it isn't, its listing, its print, its
-//! formatted text.
+//! The check, the listing, the printing and the formatting of one text.
 //!
-//! [`answer_for`] returns the first three as bytes, [`bytes_formatted`] the last, and
-//! [`checked_bytes`] the errors as values. The program `wat` and the library for C call these.
+//! - [`answer_for`] returns the report of a check, the listing, or the printed text, as bytes.
+//! - [`bytes_formatted`] returns the formatted text.
+//! - [`checked_bytes`] returns the errors as values.
+//!
+//! The program `wat` and the library for C call these functions.
 #![tactic(auto)]
 
 pub mod checked;

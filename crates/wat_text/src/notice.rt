@@ -1,4 +1,4 @@
-//! What a check of a text finds.
+//! The notices of a check.
 
 ghost use Rattle.std.specs.Prelude.{◌≡◌, ◌++◌, IfOk, OnOk, flat_map};
 ghost use Rattle.wat_text.specs.Notices.{more_json, more_line, more_words};
@@ -26,7 +26,7 @@ pub fn add_more_words(out: &mut Vec<u8>, count: usize) -> Result<(), AllocError>
     out.extend_from_slice(words.as_bytes())
 }
 
-/// Adds the line of a report that says how many more fields are invalid.
+/// Adds the line of a report with the number of further invalid fields.
 fn add_more_line(out: &mut Vec<u8>, name: &str, count: usize) -> Result<(), AllocError>
     ensures { OnOk result (out.new.items ≡ out.old.items ++ more_line name.now count) }
 {
@@ -36,7 +36,7 @@ fn add_more_line(out: &mut Vec<u8>, name: &str, count: usize) -> Result<(), Allo
     out.extend_from_slice(b"\n")
 }
 
-/// Adds the number of further invalid fields as an object of JSON on a line.
+/// Adds a line with the number of further invalid fields as a JSON object.
 fn add_more_json(out: &mut Vec<u8>, file: &str, count: usize) -> Result<(), AllocError>
     ensures { OnOk result (out.new.items ≡ out.old.items ++ more_json file.now count) }
 {
@@ -82,7 +82,7 @@ pub(crate) fn report_of(
     Ok(report)
 }
 
-/// Returns notices for a text of that name as JSON, an object a line.
+/// Returns notices for a text of that name as JSON, with one object on each line.
 pub(crate) fn json_of(alloc: Global, file: &str, notices: &[Notice]) -> Result<Vec<u8>, AllocError>
     ensures { IfOk result (λ output. output.items ≡ flat_map (notice_json file.now) notices.now) }
 {

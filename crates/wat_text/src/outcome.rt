@@ -22,7 +22,7 @@ use wat_print_module::print_module;
 use wat_report::{Diagnostic, add_diagnostic, add_report, text_or_diagnostic};
 use wat_show::modules::add_module;
 
-/// Returns the text that a module is printed as, and a line break.
+/// Returns the printed text of a module, and a line break.
 fn printed(alloc: Global, layout: Layout, module: &Module) -> Result<Vec<u8>, AllocError>
     requires { WasRead (module_view «module».now) }
     ensures { IfOk result (λ output. IsAnswer (Print layout) (module_view «module».now) output.items) }
@@ -135,7 +135,7 @@ fn answer_for_bytes(
     }
 }
 
-/// Checks bytes of that name. Returns the report of what is found, and the status.
+/// Checks bytes of that name. Returns the report of the notices, and the status.
 fn reported(alloc: Global, name: &str, bytes: &[u8]) -> Result<(Vec<u8>, u8), AllocError>
     ensures { IfOk result (λ output. AnswersFound (notice_report name.now) bytes.now output.0.items
         output.1) }
@@ -144,7 +144,7 @@ fn reported(alloc: Global, name: &str, bytes: &[u8]) -> Result<(Vec<u8>, u8), Al
     Ok((report_of(alloc, name, &notices)?, status))
 }
 
-/// Checks bytes of that name. Returns what is found as JSON, and the status.
+/// Checks bytes of that name. Returns the notices as JSON, and the status.
 fn reported_as_json(alloc: Global, name: &str, bytes: &[u8]) -> Result<(Vec<u8>, u8), AllocError>
     ensures { IfOk result (λ output. AnswersFound (notice_json name.now) bytes.now output.0.items
         output.1) }

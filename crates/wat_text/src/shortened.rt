@@ -1,10 +1,14 @@
-//! A short text for the beginning of a long field, after which the same tokens could stand.
+//! A short text for the beginning of a long field, after which the same tokens are possible.
 //!
-//! What could stand after the beginning of a field depends on the groups and blocks that are open
-//! there, and on what they begin and end with. So of a long group only the first and last items
-//! stay, an instruction in a group of its own becomes `(nop)` if it is long, and a long string
-//! becomes empty. No clause says that the same tokens could stand after both texts: whoever calls
-//! tries first whether the short text begins a field.
+//! The tokens that are possible after the beginning of a field depend on the open groups and blocks,
+//! and on the first and last items of these. So the beginning is shortened:
+//!
+//! - a long open group keeps only its first and last items;
+//! - a long instruction in parentheses becomes `(nop)`;
+//! - a long string becomes the empty string.
+//!
+//! It is not proved that the same tokens are possible after both texts. A caller first checks that
+//! the short text begins a field.
 
 use crate::words::INNER_WORDS;
 use std::alloc::{AllocError, Global};
@@ -19,10 +23,10 @@ const STAYING: usize = 16;
 /// The number of items at which an open group is shortened.
 const MOST_ITEMS: usize = 64;
 
-/// The number of tokens of the longest closed group that stays as it is.
+/// The maximum number of tokens of a closed group that stays as it is.
 const MOST_TOKENS: usize = 64;
 
-/// The length of the longest string that stays as it is, in bytes.
+/// The maximum length of a string that stays as it is, in bytes.
 const LONGEST_STRING: usize = 64;
 
 /// A piece of the short text.
@@ -45,10 +49,10 @@ enum Kind {
     Other,
 }
 
-/// An open group, or an open block, which the word `end` closes.
+/// An open group, or an open block. The word `end` closes a block.
 #[derive(Clone, Copy)]
 struct Level {
-    /// The number of items before its own.
+    /// The number of items before the items of the group or block.
     first: usize,
     is_block: bool,
 }
@@ -74,7 +78,7 @@ fn word_at<'a>(tokens: &Tokens<'a>, index: usize) -> &'a str {
     }
 }
 
-/// Returns whether the word is that of an instruction.
+/// Returns whether the word is the mnemonic of an instruction.
 fn is_mnemonic(word: &str) -> bool {
     !word.is_empty()
         && !FIELD_WORDS.iter().any(|field| field.word() == word)
@@ -106,7 +110,8 @@ impl Shortened {
         }
     }
 
-    /// Returns the index of the first item that is a word, from an index up to an end, or the index.
+    /// Returns the index of the first item that is a word, from an index up to an end. Returns `from` if
+    /// there is no such item.
     fn first_word(&self, tokens: &Tokens, from: usize, to: usize) -> usize {
         for index in from..to {
             if self.kind_at(tokens, index) == Kind::Word {
@@ -116,8 +121,8 @@ impl Shortened {
         from
     }
 
-    /// Returns the index of the last item before an end that is of the kind of the item at an index,
-    /// or the index.
+    /// Returns the index of the last item before an end that has the kind of the item at an index.
+    /// Returns `from` if there is no such item.
     fn last_alike(&self, tokens: &Tokens, from: usize, to: usize) -> usize {
         let kind = self.kind_at(tokens, from);
         for index in (from..to).rev() {
@@ -216,7 +221,7 @@ impl Shortened {
         self.replace(tokens, level, index)
     }
 
-    /// Adds a token that isn't a paren.
+    /// Adds a token that isn't a parenthesis.
     fn add_word(&mut self, tokens: &Tokens, index: usize) -> Result<(), AllocError> {
         let word = word_at(tokens, index);
         let is_first = index > 0 && index <= tokens.len() && tokens.opens(index - 1);
@@ -257,7 +262,7 @@ impl Shortened {
     }
 }
 
-/// Adds a token of a text that isn't a paren, and a space.
+/// Adds a token of a text that isn't a parenthesis, and a space.
 fn add_run(out: &mut String, text: &str, from: usize) -> Result<(), AllocError> {
     if from >= text.len() {
         return Ok(());
@@ -294,8 +299,8 @@ fn add_piece(
     }
 }
 
-/// Returns a short text for the beginning of a field: the tokens of the text from an index up to an
-/// end, which is shortened.
+/// Returns a short text for the beginning of a field. The beginning is the tokens of the text from an
+/// index up to an end.
 pub(crate) fn short_text(
     alloc: Global,
     text: &str,

@@ -1,6 +1,6 @@
 //! Words of the text format.
 
-/// The words that begin a group within a field, without those of instructions and of fields.
+/// The words that begin a group within a field, without mnemonics and without words of fields.
 pub(crate) const INNER_WORDS: [&str; 31] = [
     "param",
     "result",

@@ -1,4 +1,4 @@
--- What one step of the parser counts.
+-- The counts of one step of the parser.
 use Rattle.std.specs.Prelude.{◌≡◌, ◌≢◌, ℕ, ◌+◌, ◌≤◌, List, [], ◌∷◌, ◌++◌, length, max, refl, drop, take}
 use Rattle.std.proofs.Common.{arith, sym, ap, ◌∙◌, subst}
 use Rattle.std.proofs.lemmas.List.{append_cancel_right}
@@ -21,12 +21,12 @@ carries_step a b some l t q k e =
     let s = some_left a.left some in
     carries_of a b (record { front = take 1 a.left; left = sym s.0 ∙ ap (λ l. take 1 a.left ++ l) (sym l); taken = omega (arith, t, s.1); more = (omega (arith, q.0), omega (arith, q.1), omega (arith, q.2), omega (arith, q.3)); peak = omega (arith, q.2); known = k; position = e ∙ ap (λ (n : ℕ). behind a.known n a.rest) (sym s.1) })
 
--- nothing was taken, and the greatest height stayed
+-- no token was taken, and `peak` stayed
 pub carries_still : (a b : State) → b.left ≡ a.left → b.taken ≡ a.taken → a.turns ≤ b.turns → a.probes ≤ b.probes → a.held ≤ b.held → b.peak ≡ a.peak → b.known ≡ a.known → b.rest ≡ a.rest → Carries a b
 unfolding Counts behind
 carries_still a b l t m n h p k e = carries_of a b (record { front = []; left = sym l; taken = omega (arith, t); more = (m, n, omega (arith, p), h); peak = omega (arith, p); known = k; position = e })
 
--- in plain words: what was taken is a prefix, and what was counted is its
+-- `TakesPrefix` from `Carries`: the tokens taken are a prefix, and the counts are the prefix's
 pub takes_prefix : (a b : State) → Carries a b → TakesPrefix a b
 unfolding Counts
 takes_prefix a b f =

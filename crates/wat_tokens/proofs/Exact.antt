@@ -1,4 +1,4 @@
--- What follows from an answer that is exactly what is read.
+-- Consequences of a result that is exactly what the production reads.
 use Rattle.std.proofs.Common.{◌≡◌, ◌≢◌, true, List, ◌++◌, Some, None, Result, Ok, Err, sym, ap, ◌∙◌}
 use Rattle.std.specs.Prelude.{IfOk, IfErr}
 use Rattle.wat_lexer.specs.Token.{Tok}

@@ -1,4 +1,5 @@
--- Where a group that was read left something, the groups together are no list without parts.
+-- If the list with the parts of one more group isn't empty, the list with the parts of all groups
+-- isn't empty.
 use Rattle.std.proofs.Common.{◌≡◌, ◌≤◌, Bool, true, false, List, [], ◌∷◌, ◌++◌, Some, None, refl}
 use Rattle.wat_lexer.specs.Token.{Tok}
 use Rattle.wat_tokens.specs.Production.{Production, Read}

@@ -1,4 +1,4 @@
--- What is in front, and what is behind it.
+-- The next token, and the tokens after it.
 use Rattle.std.proofs.Common.{inl, inr, refl, ◌≡◌, ◌≢◌, ℕ, ◌+◌, ◌<◌, ◌≤◌, Bool, List, [], ◌∷◌, length, drop, sym, ap, ◌∙◌, arith, drop-drop}
 use Rattle.std.proofs.Math.ListN.{get_or}
 use Rattle.std.proofs.lemmas.Bool.{cases_lt, cases_Bool}
@@ -12,7 +12,7 @@ use Rattle.wat_lexer.specs.Sight.{visible, visible_tokens, hidden_count, hidden_
 use Rattle.wat_lexer.specs.View.{entry_tok, toks, no_entry, VisibleFrom}
 use Rattle.wat_tokens.specs.Tests.{ends, as_lparen, as_rparen, as_annotation}
 
--- a token is at the place, where one is visible from there
+-- if a token is visible from the index on, the index is that of a token
 pub stands_before : (known : Bool) (ls : List Entry) (i : ℕ) (left : List Tok) → VisibleFrom known (drop i ls) left → left ≢ [] → i < length ls
 stands_before known ls i left s some =
     elim (cases_lt i (length ls)) [
@@ -20,15 +20,15 @@ stands_before known ls i left s some =
       | inr le ↦ absurd (some (visible_none known ls i left s le))
     ]
 
--- and behind it stands what is visible behind it
+-- the tokens visible after that token are visible from the next index on
 pub steps_to : (known : Bool) (ls : List Entry) (i : ℕ) (left : List Tok) → VisibleFrom known (drop i ls) left → i < length ls → visible_tokens known (toks (drop (i + 1) ls)) ≡ drop 1 left
 steps_to known ls i left s lt = ap (drop 1) (sym (visible_some known ls i left s lt))
 
--- the tokens behind the one in front are those behind its place
+-- the tokens after the next token are the tokens from the index after it
 pub rest_behind : (ls : List Entry) (i n : ℕ) → toks (drop (i + n + 1) ls) ≡ drop (n + 1) (toks (drop i ls))
 rest_behind ls i n = ap (λ (l : List Entry). toks l) (ap (λ (k : ℕ). drop k ls) {x = i + n + 1} {y = i + (n + 1)} (omega arith) ∙ sym (drop-drop (n + 1) i ls)) ∙ sym (drop-map entry_tok (n + 1) (drop i ls))
 
--- what is visible begins with the first of the list, where nothing is hidden in front
+-- the visible tokens begin with the first of the list, if that token is not hidden
 shown_here : (known : Bool) (ls : List Entry) → hidden_count known (toks ls) ≡ 0 → VisibleFrom known ls (visible_tokens known (toks ls))
 unfolding visible_tokens visible hidden_count hidden_count_at
 shown_here known [] h = refl
@@ -53,19 +53,19 @@ shown_few known ls i h = not_hidden known (toks (drop i ls)) (begins_hidden_few 
 pub shown_other : (known : Bool) (ls : List Entry) (i : ℕ) → i + 1 < length ls → is_annotation ((get_or ls (i + 1) no_entry).token) ≡ false → hidden_count known (toks (drop i ls)) ≡ 0
 shown_other known ls i lt h = not_hidden known (toks (drop i ls)) (begins_hidden_other known ls i lt h)
 
--- the place is that of the first that is visible
+-- the index is that of the first visible token
 pub shown_at : (known : Bool) (ls : List Entry) (i : ℕ) → hidden_count known (toks (drop i ls)) ≡ 0 → VisibleFrom known (drop i ls) (visible_tokens known (toks (drop i ls)))
 shown_at known ls i h = shown_here known (drop i ls) h
 
 pub ruleset sight_steps = (shown_few, shown_other, shown_at)
 
--- what is visible from the place of the first that is
+-- the visible tokens from the index of the first visible token on
 pub ruleset visible_steps = (visible_some, visible_none)
 
--- one step on
+-- rules for one step
 pub ruleset advance_steps = (stands_before, steps_to, rest_behind)
 
--- so a lookup sees the token at its place, where one is there
+-- a lookup sees the token at its index, if the index is that of a token
 pub front_some : (known : Bool) (ls : List Entry) (i : ℕ) → hidden_count known (toks (drop i ls)) ≡ 0 → i < length ls
     → visible_tokens known (toks (drop i ls)) ≡ (get_or ls i no_entry).token ∷ visible_tokens known (toks (drop (i + 1) ls))
 front_some known ls i h lt = visible_some known ls i (visible_tokens known (toks (drop i ls))) (shown_here known (drop i ls) h) lt
@@ -76,7 +76,7 @@ front_none known ls i h le = visible_none known ls i (visible_tokens known (toks
 
 pub ruleset front_steps = (front_some, front_none)
 
--- WHAT A TOKEN'S KIND TELLS
+-- THE KIND OF A TOKEN
 
 pub ends_first : (t : Tok) (r : List Tok) → ends (t ∷ r) ≡ is_close t
 ends_first RParen r = refl

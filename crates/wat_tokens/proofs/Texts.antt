@@ -1,4 +1,4 @@
--- What a test of UTF-8 answers, from what std says of bytes that are or aren't.
+-- The result of a UTF-8 test, from std's facts about valid and invalid UTF-8.
 use Rattle.std.proofs.Common.{◌≡◌, ℕ, List, true, false}
 use Rattle.std.specs.Str.{IsUtf8, is_utf8}
 use Rattle.std.proofs.lemmas.Str.{IsUtf8-from_is_utf8, is_utf8-from_IsUtf8}

@@ -1,4 +1,4 @@
--- A loop that adds each part to what it has, where it fits.
+-- A loop that adds each part to a state, if the part fits.
 use Rattle.std.specs.Prelude.{List, [], ◌∷◌, Option, Some, None}
 use Rattle.wat_tokens.specs.Production.{Read, bind}
 use Rattle.wat_tokens.specs.PartSpells.{with_rest}
@@ -16,6 +16,6 @@ module _ {A S : Type 0} (add : S → A → Option S) where
   abbrev pub add_read : S → Read A → Read S
   add_read s read = bind read (λ v r. with_rest (add s v) r)
 
-  -- all the parts that are still read, added
+  -- all parts that are still to be read, added
   abbrev pub add_rest : S → Read (List A) → Read S
   add_rest s read = bind read (λ vs r. with_rest (add_all vs s) r)

@@ -1,11 +1,11 @@
--- What a call promises that makes a value once more.
+-- The contract of a call that copies a value.
 use Rattle.std.specs.Prelude.{◌≡◌, Result, IfOk, IfErr, false}
 use Rattle.wat_tokens.specs.Error.{Error, Memory}
 use Rattle.wat_tokens.specs.Views.{ViewOf}
 
--- same: every part is the same, the places too
+-- same: every part is the same, also the positions
 -- seen: contracts see the same value
--- memory: it may be refused memory where the value isn't bare, and for nothing else
+-- memory: the call fails only with Memory, and only if the value isn't bare
 pub record Copies {X A : Type 0} (alike : X → X → Type 0) (view : ViewOf X A) (r : Result X Error)
     (x : X) : Type 0 where
   pub same : IfOk r (λ y. alike x y)

@@ -1,16 +1,16 @@
--- What a parse may count beside the tokens that it takes.
+-- The counters that a parse may change besides `taken`.
 use Rattle.wat_tokens.specs.Counts.{Quiet, Stays}
 use Rattle.wat_tokens.specs.State.{State}
 
--- tokens_alone: nothing but `taken`
--- words_too: comparisons of words, where an instruction is read
--- turns_too: turns of a loop and heights as well, where an expression is read
+-- tokens_alone: only `taken`
+-- words_too: also comparisons of words, for an instruction
+-- turns_too: also turns of a loop and heights, for an expression
 pub data Cost : Type 0 where
   tokens_alone : Cost
   words_too : Cost
   turns_too : Cost
 
--- what stayed as it was from a to b
+-- the counters that did not change from a to b
 abbrev pub Costs : Cost → State → State → Type 0
 Costs tokens_alone a b = Quiet a b
 Costs words_too a b = Stays a b

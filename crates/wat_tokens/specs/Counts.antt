@@ -1,4 +1,4 @@
--- What the counts of a parser do over a call.
+-- How a call changes the counts of a parser.
 use Rattle.std.specs.Prelude.{◌≡◌, ℕ, ◌+◌, ◌≤◌, List, ◌++◌, length, max, Result, Ok, Err}
 use Rattle.wat_lexer.specs.Token.{Tok}
 use Rattle.wat_tokens.specs.Parens.{nest}
@@ -8,8 +8,8 @@ use Rattle.wat_tokens.specs.State.{State, behind}
 abbrev pub Grows : State → State → Type 0
 Grows a b = (a.turns ≤ b.turns) × (a.probes ≤ b.probes) × (a.peak ≤ b.peak) × (a.held ≤ b.held)
 
--- From a to b the tokens `front` were taken, and the place is directly behind them; no count fell,
--- the greatest height rose at most to how they nest, and the names that are on stayed.
+-- From a to b the tokens `front` were taken, and the position is directly after them. No count
+-- fell, `peak` rose at most to the nesting of `front`, and `known` did not change.
 pub record CountsBy (a : State) (b : State) : Type 0 where
   pub front : List Tok
   pub left : a.left ≡ front ++ b.left
@@ -22,24 +22,24 @@ pub record CountsBy (a : State) (b : State) : Type 0 where
 unfoldable pub Counts : State → State → Type 0
 Counts a b = CountsBy a b
 
--- what was counted since any earlier state still is
+-- counts since any earlier state s that hold at a also hold at b
 abbrev pub Carries : State → State → Type 0
 Carries a b = (s : State) → Counts s a → Counts s b
 
--- one more turn than tokens on a refusal
+-- the turns allowed beyond the tokens: one on an error
 abbrev pub on_refusal : {X E : Type 0} → Result X E → ℕ
 on_refusal (Ok _) = 0
 on_refusal (Err _) = 1
 
--- turns rose at most as much as taken, and at most one more on a refusal
+-- `turns` rose at most as much as `taken`, or by one more on an error
 abbrev pub Turned : {X E : Type 0} → Result X E → State → State → Type 0
 Turned r a b = b.turns + a.taken ≤ a.turns + b.taken + on_refusal r
 
--- both of a call that answers r
+-- both, for a call that returns r
 abbrev pub Counted : {X E : Type 0} → Result X E → State → State → Type 0
 Counted r a b = Carries a b × Turned r a b
 
--- nothing but `taken` was counted: no turn, no comparison, no height
+-- only `taken` changed: no turn, no comparison and no height was counted
 abbrev pub Quiet : State → State → Type 0
 Quiet a b = (b.turns ≡ a.turns) × (b.probes ≡ a.probes) × (b.peak ≡ a.peak) × (b.held ≡ a.held)
 
@@ -47,6 +47,6 @@ Quiet a b = (b.turns ≡ a.turns) × (b.probes ≡ a.probes) × (b.peak ≡ a.pe
 abbrev pub Stays : State → State → Type 0
 Stays a b = (b.turns ≡ a.turns) × (b.peak ≡ a.peak) × (b.held ≡ a.held)
 
--- which names are on, and whether spans of instructions are kept, stands as before
+-- the settings are as before: known annotations, and whether instruction spans are kept
 abbrev pub SameSettings : State → State → Type 0
 SameSettings a b = (b.known ≡ a.known) × (b.tracks ≡ a.tracks)

@@ -1,4 +1,4 @@
--- The faults, for the crates above.
+-- The faults, for the crates that use this crate.
 pub use Rattle.wat_lexer.specs.declared.fault.Error.{Error}
 pub use Rattle.wat_lexer.specs.declared.fault.Fault.{Fault}
 pub use Rattle.wat_lexer.specs.declared.fault.Fault.TheVariants.{Memory, LexChar, LexString}

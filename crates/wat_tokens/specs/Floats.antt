@@ -1,4 +1,4 @@
--- Literals of floating-point numbers, which aren't read.
+-- Floating-point literals, which are not read.
 use Rattle.wat_tokens.specs.Production.{Production}
 use Rattle.wat_tokens.specs.NoneSpells.{none_spells, none_reads}
 use Rattle.wat_tokens.specs.Laws.Floats.{none_sound, none_complete, none_takes, none_balanced}

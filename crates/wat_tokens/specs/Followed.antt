@@ -1,4 +1,4 @@
--- A part that decides what follows it, and no tokens at all.
+-- A part whose value decides the next part, and the empty part.
 use Rattle.wat_tokens.specs.Production.{Production}
 use Rattle.wat_tokens.specs.FollowedSpells.{followed_spells, followed_reads, blank_spells}
 use Rattle.wat_tokens.specs.FollowedSpells.{blank_reads}
@@ -6,9 +6,9 @@ use Rattle.wat_tokens.specs.Laws.Followed.{followed_sound, followed_complete, fo
 use Rattle.wat_tokens.specs.Laws.Followed.{followed_balanced, blank_sound, blank_complete}
 use Rattle.wat_tokens.specs.Laws.Followed.{blank_takes, blank_balanced}
 
--- ---- what is in front, and then what it is followed by
+-- ---- a part, and then a part that depends on its value
 
--- g, and then what the value of g is followed by
+-- g, and then h v, where v is the value of g
 abbrev pub followed : {A B : Type 0} → Production A → (A → Production B) → Production B
 followed g h = record {
   spells = followed_spells g h;
@@ -22,7 +22,7 @@ followed g h = record {
 
 -- ---- no tokens
 
--- nothing, which means a
+-- no tokens, with the value a
 abbrev pub blank : {A : Type 0} → A → Production A
 blank a = record {
   spells = blank_spells a;

@@ -1,9 +1,9 @@
--- What a part spells that its front decides, and what nothing spells.
+-- Relations and readers of a part that depends on the part before it, and of the empty part.
 use Rattle.std.specs.Prelude.{◌≡◌, List, [], ◌++◌, Some}
 use Rattle.wat_lexer.specs.Token.{Tok}
 use Rattle.wat_tokens.specs.Production.{Read, bind, Production}
 
--- ---- what is in front, and then what it is followed by
+-- ---- a part, and then a part that depends on its value
 
 module _ {A B : Type 0} (g : Production A) (h : A → Production B) where
   abbrev pub followed_spells : B → List Tok → List Tok → Type 0

@@ -1,4 +1,4 @@
--- What groups spell and read.
+-- Relations and readers of groups.
 use Rattle.std.specs.Prelude.{◌≡◌, true, if◌then◌else◌, List, [], ◌∷◌, ◌++◌, Some, None}
 use Rattle.wat_lexer.specs.Token.{Tok, LParen, RParen}
 use Rattle.wat_tokens.specs.Tests.{as_lparen, as_rparen, ends}

@@ -33,7 +33,7 @@ annotation_group name g = paren (made (λ v. v.1) (seq (one (annotation_only nam
 
 -- ---- a part that reaches to the end of its group
 
--- g, where nothing follows or what closes the group
+-- g, where the end of the tokens or a `)` follows
 abbrev pub at_end : {A : Type 0} → Production A → Production A
 at_end g = record {
   spells = end_spells g;

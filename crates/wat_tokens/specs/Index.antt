@@ -20,7 +20,7 @@ use Rattle.wat_tokens.specs.declared.index.Index.TheVariants as code
 abbrev pub name_of : code_id.Id → List ℕ
 name_of i = i.name.now
 
--- where it stands
+-- the position
 abbrev pub span_of : code_id.Id → Span
 span_of i = i.span
 
@@ -30,7 +30,7 @@ identifier = one as_id (refl, refl)
 
 -- ---- indices
 
--- an index, without its place
+-- an index, without its position
 pub data Idx : Type 0 where
   number : ℕ → Idx
   name : List ℕ → Idx
@@ -39,7 +39,7 @@ abbrev pub index_view : Index → Idx
 index_view (code.Num n span) = number n
 index_view (code.Id i) = name (name_of i)
 
--- the index that the token is
+-- the index that the token spells
 abbrev pub index_of : Tok → Option Idx
 index_of (Integer text) = option_map number (unsigned_value 32 text)
 index_of (Id n) = Some (name n)
@@ -64,7 +64,7 @@ same_index _ _ = false
 
 -- ---- hashes
 
--- what a hasher is fed of an index: 0 and the number, or 1 and the name
+-- the input of a hasher for an index: 0 and the number, or 1 and the name
 abbrev pub index_writes : Idx → HashWrites
 index_writes (number n) = fed.u8 0 ++ fed.u32 n
 index_writes (name x) = fed.u8 1 ++ fed.str x

@@ -1,4 +1,4 @@
--- Integers, and the numbers that they are read as.
+-- Integers, and their values as numbers of a given width.
 use Rattle.std.specs.Prelude.{ℕ, ℤ, List, Option, None, refl}
 use Rattle.wat_lexer.specs.Number.{unsigned_value, signed_value}
 use Rattle.wat_lexer.specs.Token.{Tok, Integer}
@@ -10,12 +10,12 @@ use Rattle.wat_tokens.specs.Parts.{one}
 abbrev pub integer : Production (List ℕ)
 integer = one as_integer (refl, refl)
 
--- the number of so many bits that the token reads as without a sign
+-- the token's value as an unsigned number of the given width in bits
 abbrev pub unsigned_of : ℕ → Tok → Option ℕ
 unsigned_of bits (Integer text) = unsigned_value bits text
 unsigned_of bits _ = None
 
--- the number of so many bits that the token reads as with a sign
+-- the token's value as a signed number of the given width in bits
 abbrev pub signed_of : ℕ → Tok → Option ℤ
 signed_of bits (Integer text) = signed_value bits text
 signed_of bits _ = None

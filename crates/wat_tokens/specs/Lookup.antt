@@ -1,4 +1,4 @@
--- What lookups answer.
+-- The results of lookups.
 use Rattle.std.specs.Prelude.{◌≡◌, ◌∷◌, [], List, drop, Option, Some, None}
 use Rattle.wat_lexer.specs.Token.{Tok}
 use Rattle.wat_lexer.specs.Sight.{visible_tokens}
@@ -11,22 +11,22 @@ use Rattle.wat_tokens.specs.declared.cursor.Cursor.{Cursor}
 abbrev pub in_front : Cursor → List Tok
 in_front c = visible_tokens c.known (toks (drop c.at c.tokens.now))
 
--- the token in front, where there is one
+-- the next token, or None if no token is left
 abbrev pub FirstIs : Option Token → List Tok → Type 0
 FirstIs (Some x) t = t ≡ view x ∷ drop 1 t
 FirstIs None t = t ≡ []
 
--- the token in front and the place behind it, where there is one
+-- the next token and the position after it, or None if no token is left
 abbrev pub NextIs : Option (Token × Cursor) → List Tok → Type 0
 NextIs (Some x) t = t ≡ view x.0 ∷ in_front x.1
 NextIs None t = t ≡ []
 
--- a lookup answers the tokens after the one in front, where that one is such a token
+-- a lookup returns the position after the next token if that token passes the test, else None
 abbrev pub GivesRest : (Tok → Option (Unit {0})) → List Tok → Option Cursor → Type 0
 GivesRest is t (Some c) = one_reads is t ≡ Some (tt, in_front c)
 GivesRest is t None = one_reads is t ≡ None
 
--- the same, with what is in the token, seen by content
+-- the same, with the token's content, under the view content
 abbrev pub GivesContent : {X A : Type 0} → (X → A) → (Tok → Option A) → List Tok
     → Option (X × Cursor) → Type 0
 GivesContent content is t (Some x) = one_reads is t ≡ Some (content x.0, in_front x.1)

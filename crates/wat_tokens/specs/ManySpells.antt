@@ -1,10 +1,10 @@
--- What lists of parts spell and read.
+-- Relations and readers of lists of parts.
 use Rattle.std.specs.Prelude.{◌≡◌, ℕ, zero, suc, Bool, true, false, if◌then◌else◌, List, [], ◌∷◌}
 use Rattle.std.specs.Prelude.{◌++◌, length, Some, None}
 use Rattle.wat_lexer.specs.Token.{Tok}
 use Rattle.wat_tokens.specs.Production.{Read, bind, Production}
 
--- ---- any number of parts: one more wherever the tokens in front begin one
+-- ---- any number of parts: one more whenever the next tokens begin a part
 
 module _ {A : Type 0} (begins : List Tok → Bool) (g : Production A) where
   abbrev pub many_spells : List A → List Tok → List Tok → Type 0

@@ -1,4 +1,4 @@
--- What a production spells that reads nothing.
+-- Relation and reader of the production that has no value.
 use Rattle.std.specs.Prelude.{List, None}
 use Rattle.wat_lexer.specs.Token.{Tok}
 use Rattle.wat_tokens.specs.Production.{Read}

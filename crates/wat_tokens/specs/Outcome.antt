@@ -1,4 +1,4 @@
--- What a parse answers and what it takes, by the tokens in front.
+-- The result of a parse and the tokens that it takes, by the next tokens.
 use Rattle.std.specs.Prelude.{◌≡◌, ◌≢◌, ◌≤◌, ◌+◌, ◌++◌, List, length, max, Result, IfOk, IfErr}
 use Rattle.wat_lexer.specs.Token.{Tok}
 use Rattle.wat_tokens.specs.Counts.{Grows}
@@ -9,10 +9,10 @@ use Rattle.wat_tokens.specs.Production.{Production, Front}
 use Rattle.wat_tokens.specs.State.{State, behind}
 use Rattle.wat_tokens.specs.Views.{ViewOf}
 
--- A call from a to b answered r: it reads exactly what a prefix of the tokens in front spells.
+-- A call from a to b returned r: it reads exactly the value that a prefix of a.left spells.
 -- sound: the tokens that were taken spell the value
--- accepts: where tokens in front spell a value, it is that one, or memory ran out
--- refused: a fault other than Memory means that no tokens in front spell a value
+-- accepts: if a prefix of a.left spells a value, r is that value or Memory
+-- refused: if r is a fault other than Memory, no prefix of a.left spells a value
 pub record ReadsPrefix {X A : Type 0} (view : ViewOf X A) (g : Production A) (r : Result X Error)
     (a b : State) : Type 0 where
   pub sound : IfOk r (λ x. Front g.spells a.left (view.of x, b.left))
@@ -21,12 +21,12 @@ pub record ReadsPrefix {X A : Type 0} (view : ViewOf X A) (g : Production A) (r 
   pub refused : IfErr r (λ e. e.fault ≢ Memory → (v : A) (c d : List Tok) → a.left ≡ c ++ d
       → g.spells v c d → ⊥)
 
--- From a to b a prefix c of the tokens in front was taken, also on a refusal.
--- end: what is left is an end of them
--- position: the parser is directly behind the last token that was taken
--- taken, within: `taken` rose by the number of tokens that were taken, and never by more than stood
--- in front
--- peak: the greatest height is at most what it was, or how the tokens that were taken nest
+-- From a to b a prefix c of a.left was taken, also on an error.
+-- end: b.left is a suffix of a.left
+-- position: the parser is directly after the last token that was taken
+-- taken: `taken` rose by the number of tokens that were taken
+-- within: the number of tokens taken and left together did not change
+-- peak: `peak` is at most its old value, or the nesting of c
 -- grows: no count fell
 pub record TakesPrefix (a b : State) : Type 0 where
   pub end : (c : List Tok) × (a.left ≡ c ++ b.left)

@@ -20,7 +20,7 @@ AreBalanced c = opens c ≡ closes c
 abbrev pub NoParens : {A : Type 0} → (Tok → Option A) → Type 0
 NoParens f = (f LParen ≡ None) × (f RParen ≡ None)
 
--- the greatest excess of `(` over `)` in any front
+-- the greatest excess of `(` over `)` in any prefix
 abbrev pub rise : List Tok → ℕ
 rise [] = 0
 rise (LParen ∷ r) = rise r + 1

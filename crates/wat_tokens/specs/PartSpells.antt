@@ -1,10 +1,10 @@
--- What the parts of productions spell and read.
+-- Relations and readers of the parts of productions.
 use Rattle.std.specs.Prelude.{◌≡◌, Bool, true, false, if◌then◌else◌, List, [], ◌∷◌, ◌++◌, Option}
 use Rattle.std.specs.Prelude.{Some, None, ◌⊎◌}
 use Rattle.wat_lexer.specs.Token.{Tok}
 use Rattle.wat_tokens.specs.Production.{Read, bind, Production}
 
--- ---- one token, which gives a value
+-- ---- one token that has a value
 
 abbrev pub with_rest : {A : Type 0} → Option A → List Tok → Read A
 with_rest (Some v) r = Some (v, r)
@@ -28,7 +28,7 @@ module _ {A B : Type 0} (g : Production A) (h : Production B) where
   abbrev pub seq_reads : List Tok → Read (A × B)
   seq_reads t = bind (g.reads t) (λ a t'. bind (h.reads t') (λ b r. Some ((a, b), r)))
 
--- ---- the one where a test of the tokens in front holds, else the other
+-- ---- one part if a test of the next tokens holds, else another part
 
 module _ {A : Type 0} (test : List Tok → Bool) (g h : Production A) where
   abbrev pub where_spells : A → List Tok → List Tok → Type 0
@@ -38,7 +38,7 @@ module _ {A : Type 0} (test : List Tok → Bool) (g h : Production A) where
   abbrev pub where_reads : List Tok → Read A
   where_reads t = if test t then g.reads t else h.reads t
 
--- ---- a value made of the parts, where the parts meet a condition
+-- ---- a value made of the parts, if the parts meet a condition
 
 module _ {A B : Type 0} (ok : A → Bool) (f : A → B) (g : Production A) where
   abbrev pub of_spells : B → List Tok → List Tok → Type 0
@@ -50,7 +50,7 @@ module _ {A B : Type 0} (ok : A → Bool) (f : A → B) (g : Production A) where
   abbrev pub of_reads : List Tok → Read B
   of_reads t = bind (g.reads t) kept
 
--- ---- an optional part: there where the tokens in front begin it
+-- ---- an optional part: present if the next tokens begin it
 
 module _ {A : Type 0} (begins : List Tok → Bool) (g : Production A) where
   abbrev pub opt_spells : Option A → List Tok → List Tok → Type 0

@@ -13,9 +13,9 @@ use Rattle.wat_tokens.specs.Laws.Parts.{where_complete, where_takes, where_balan
 use Rattle.wat_tokens.specs.Laws.Parts.{of_complete, of_takes, of_balanced, opt_sound, opt_complete}
 use Rattle.wat_tokens.specs.Laws.Parts.{opt_takes, opt_balanced}
 
--- ---- one token, which gives a value
+-- ---- one token that has a value
 
--- a token for which value_of gives a value; it gives none for parentheses
+-- a token that has a value by value_of; parentheses have no value
 abbrev pub one : {A : Type 0} → (value_of : Tok → Option A) → NoParens value_of → Production A
 one value_of flat = record {
   spells = one_spells value_of;
@@ -40,7 +40,7 @@ seq g h = record {
   balanced = seq_balanced g h;
 }
 
--- ---- the one where a test of the tokens in front holds, else the other
+-- ---- one part if a test of the next tokens holds, else another part
 
 abbrev pub where_else : {A : Type 0} → (List Tok → Bool) → Production A → Production A
     → Production A
@@ -54,7 +54,7 @@ where_else test g h = record {
   balanced = where_balanced test g h;
 }
 
--- ---- a value made of the parts, where the parts meet a condition
+-- ---- a value made of the parts, if the parts meet a condition
 
 abbrev pub made_where : {A B : Type 0} → (A → Bool) → (A → B) → Production A → Production B
 made_where ok f g = record {
@@ -67,7 +67,7 @@ made_where ok f g = record {
   balanced = of_balanced ok f g;
 }
 
--- ---- an optional part: there where the tokens in front begin it
+-- ---- an optional part: present if the next tokens begin it
 
 abbrev pub opt : {A : Type 0} → (List Tok → Bool) → Production A → Production (Option A)
 opt begins g = record {
@@ -82,7 +82,7 @@ opt begins g = record {
 
 -- ---- shorter names
 
--- any such part, as the value that f makes of it
+-- g, with the value that f makes of g's value
 abbrev pub made : {A B : Type 0} → (A → B) → Production A → Production B
 made f g = made_where (λ _. true) f g
 
@@ -90,7 +90,7 @@ made f g = made_where (λ _. true) f g
 abbrev pub word : List ℕ → Production (Unit {0})
 word w = one (word_only w) (refl, refl)
 
--- word?, whether it stands
+-- word?, as whether the word is present
 abbrev pub flag : List ℕ → Production Bool
 flag w = made (λ o. is_some o) (opt (begins_word w) (word w))
 

@@ -1,4 +1,4 @@
--- Productions: what tokens spell a value, and how it is read.
+-- Productions: which tokens spell a value, and how a reader reads them.
 use Rattle.std.specs.Prelude.{◌≡◌, ℕ, ◌≤◌, List, ◌++◌, length, Option, Some, None}
 use Rattle.wat_lexer.specs.Token.{Tok}
 use Rattle.wat_tokens.specs.Parens.{AreBalanced}
@@ -7,20 +7,20 @@ use Rattle.wat_tokens.specs.Parens.{AreBalanced}
 abbrev pub Read : Type 0 → Type 0
 Read A = Option (A × List Tok)
 
--- what is read next, behind what was read
+-- reads on after a value, with the value and the tokens after it
 abbrev pub bind : {A B : Type 0} → Read A → (A → List Tok → Read B) → Read B
 bind (Some x) f = f x.0 x.1
 bind None f = None
 
--- t is the tokens of a value, and then what is left
+-- t is the tokens that spell a value, and then the rest
 abbrev pub Front : {A : Type 0} → (A → List Tok → List Tok → Type 0) → List Tok → A × List Tok
     → Type 0
 Front spells t x = (c : List Tok) × (t ≡ c ++ x.1) × spells x.0 c x.1
 
--- spells v c r: in front of the rest r the tokens c spell v.
--- reads t: the value that is in front of t, and what is left.
--- The facts say that the reader and the relation are one, that a value takes at least `least`
--- tokens, and that its parentheses are balanced.
+-- spells v c r: before the rest r the tokens c spell v.
+-- reads t: the value that a prefix of t spells, and the tokens after it.
+-- sound, complete: the reader and the relation agree.
+-- takes: a value takes at least `least` tokens. balanced: its parentheses are balanced.
 pub record Production (A : Type 0) : Type 1 where
   pub spells : A → List Tok → List Tok → Type 0
   pub reads : List Tok → Read A

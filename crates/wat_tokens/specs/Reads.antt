@@ -1,4 +1,4 @@
--- What a call promises that reads by a production.
+-- The contract of a call that reads by a production.
 use Rattle.std.specs.Prelude.{◌≡◌, ◌+◌, drop, Result, Option, IfOk, IfErr}
 use Rattle.wat_lexer.specs.Sight.{hidden_count}
 use Rattle.wat_lexer.specs.Token.{Tok}
@@ -11,12 +11,12 @@ use Rattle.wat_tokens.specs.Production.{Production, Read}
 use Rattle.wat_tokens.specs.State.{State}
 use Rattle.wat_tokens.specs.Views.{ViewOf, plain}
 
--- From a to b a call answered r, where `read` is what its production reads of the tokens in front.
--- exact: the answer is the value of `read`, and its rest is left; a refusal means that `read` has
--- none, or that memory ran out
--- counts: what was taken, and no more turns than tokens, or one more on a refusal
--- cost: what wasn't counted
--- settings: which names are on, and whether spans are kept, stays
+-- From a to b a call returned r, where `read` is what its production reads of a.left.
+-- exact: the result is the value of `read`, with its rest left; an error means that `read` has no
+-- value, or that memory ran out
+-- counts: the tokens taken are counted, and turns rose at most by them, or one more on an error
+-- cost: the counters that did not change
+-- settings: `known` and `tracks` did not change
 pub record Call {X A : Type 0} (price : Cost) (view : ViewOf X A) (read : Read A)
     (r : Result X Error) (a b : State) : Type 0 where
   pub exact : Gives view r read b.left
@@ -24,27 +24,27 @@ pub record Call {X A : Type 0} (price : Cost) (view : ViewOf X A) (read : Read A
   pub cost : Costs price a b
   pub settings : SameSettings a b
 
--- it answers the value that the tokens in front spell, as it is seen, and counts tokens alone
+-- the call returns the value that the next tokens spell, by its view, and counts only tokens
 abbrev pub Reads : {X A : Type 0} → ViewOf X A → Production A → Result X Error → State → State
     → Type 0
 Reads view g r a b = Call tokens_alone view (g.reads a.left) r a b
 
--- the same of a call that may count more
+-- the same for a call that may count more
 abbrev pub ReadsAt : {X A : Type 0} → Cost → ViewOf X A → Production A → Result X Error → State
     → State → Type 0
 ReadsAt price view g r a b = Call price view (g.reads a.left) r a b
 
 -- ---- a call that takes one token
 
--- it answers what the token in front gives, as f sees it
+-- the call returns the value of the next token, with the view f
 abbrev pub Takes : {X A : Type 0} → (X → A) → (Tok → Option A) → Result X Error → State → State
     → Type 0
 Takes f value_of r a b = Call tokens_alone (plain f) (one_reads value_of a.left) r a b
 
--- a refusal is Unexpected, and leaves the parser as it was
+-- an error is Unexpected, and leaves the parser unchanged
 abbrev pub Unmoved : {X : Type 0} → Result X Error → State → State → Type 0
 Unmoved r a b = IfErr r (λ e. (e.fault ≡ Unexpected) × (b ≡ a))
 
--- the parser is directly behind the token, and not behind the groups that are passed over next
+-- the parser is directly after the token, and before any hidden groups that follow it
 abbrev pub BehindOne : {X : Type 0} → Result X Error → State → State → Type 0
 BehindOne r a b = IfOk r (λ _. b.rest ≡ drop (hidden_count a.known a.rest + 1) a.rest)

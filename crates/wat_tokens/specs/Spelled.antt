@@ -1,4 +1,4 @@
--- Token lists in parentheses, and those that spell a value to the last token.
+-- Token lists in parentheses, and token lists that spell a value to the last token.
 use Rattle.std.specs.Prelude.{List, [], ◌∷◌, ◌++◌}
 use Rattle.wat_lexer.specs.Token.{Tok, LParen, RParen}
 use Rattle.wat_tokens.specs.Production.{Production, Front}
@@ -7,6 +7,6 @@ use Rattle.wat_tokens.specs.Production.{Production, Front}
 abbrev pub in_parens : List Tok → List Tok
 in_parens ts = LParen ∷ (ts ++ RParen ∷ [])
 
--- the tokens spell the value, to the last one
+-- the tokens spell the value, to the last token
 abbrev pub Spelled : {A : Type 0} → Production A → List Tok → A → Type 0
 Spelled g ts v = Front g.spells ts (v, [])

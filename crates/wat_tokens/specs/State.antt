@@ -4,10 +4,12 @@ use Rattle.wat_lexer.specs.Cut.{IsCut}
 use Rattle.wat_lexer.specs.Sight.{visible_tokens, hidden_count}
 use Rattle.wat_lexer.specs.Token.{Tok, Placed, tokens_of}
 
--- rest: all tokens from the place on; left: those of them that are visible; known: whether the five
--- standard names are on; tracks: whether spans of instructions are kept; the rest are counts: of
--- tokens that were taken, turns of loops, comparisons of a word with a table's, and the greatest
--- heights of a stack's open groups and of the heads that it holds
+-- rest: all tokens from the position on; left: the visible tokens of rest;
+-- known: whether the five standard annotations are known;
+-- tracks: whether spans of instructions are kept.
+-- Counts: taken: tokens taken; turns: turns of loops; probes: comparisons of a word with an entry
+-- of a table; peak: the greatest height of a stack of open groups; held: the greatest number of
+-- heads that the stack holds.
 pub record State : Type 0 where
   pub rest : List Tok
   pub left : List Tok
@@ -19,7 +21,7 @@ pub record State : Type 0 where
   pub peak : ℕ
   pub held : ℕ
 
--- a parser at the first of the tokens: no name is on, no span is kept, and nothing was counted
+-- a parser at the first token: no annotation is known, no span is kept, and all counts are 0
 abbrev pub begun : List Tok → State
 begun t = record {
   rest = t;
@@ -37,11 +39,11 @@ begun t = record {
 abbrev pub IsFresh : List ℕ → State → Type 0
 IsFresh text p = (ts : List Placed) × IsCut text ts × (p ≡ begun (tokens_of ts))
 
--- directly behind the first n of the tokens that are visible
+-- the tokens directly after the first n visible tokens
 unfoldable pub behind : Bool → ℕ → List Tok → List Tok
 behind known zero t = t
 behind known (suc n) t = behind known n (drop (hidden_count known t + 1) t)
 
--- the parser with the five names on
+-- the parser with the five annotations known
 abbrev pub annotated : State → State
 annotated s = record s { known = true; left = visible_tokens true s.rest }

@@ -1,5 +1,5 @@
--- What holds of each step of a reading: what was counted still is, no turn and no height is, and
--- the names stay.
+-- An invariant of each step of a parse: earlier counts carry over, no turn and no height is
+-- counted, and the settings don't change.
 use Rattle.wat_tokens.specs.Counts.{Carries, Stays, SameSettings}
 use Rattle.wat_tokens.specs.State.{State}
 

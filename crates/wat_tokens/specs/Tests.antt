@@ -1,10 +1,10 @@
--- What one token is, and what is in front.
+-- Tests of one token, and of the next tokens.
 use Rattle.std.specs.Prelude.{ℕ, Bool, true, false, not, if◌then◌else◌, List, [], ◌∷◌, Option, Some}
 use Rattle.std.specs.Prelude.{None}
 use Rattle.std.specs.Str.{bytes_eq}
 use Rattle.wat_lexer.specs.Token.{Tok, LParen, RParen, Keyword, Id, Annotation, Integer, String}
 
--- ---- what one token is
+-- ---- one token
 
 abbrev pub as_any : Tok → Option (Unit {0})
 as_any x = Some tt
@@ -41,17 +41,17 @@ abbrev pub as_string : Tok → Option (List ℕ)
 as_string (String s) = Some s
 as_string _ = None
 
--- the one word
+-- the given word only
 abbrev pub word_only : List ℕ → Tok → Option (Unit {0})
 word_only w (Keyword k) = if bytes_eq k w then Some tt else None
 word_only w _ = None
 
--- the annotation of the one name
+-- the annotation with the given name only
 abbrev pub annotation_only : List ℕ → Tok → Option (Unit {0})
 annotation_only name (Annotation n) = if bytes_eq n name then Some tt else None
 annotation_only name _ = None
 
--- what a word stands for, by a table
+-- the value that a table gives for a word
 abbrev pub look_up : {A : Type 0} → List (List ℕ × A) → List ℕ → Option A
 look_up [] w = None
 look_up (e ∷ es) w = if bytes_eq w e.0 then Some e.1 else look_up es w
@@ -61,7 +61,7 @@ abbrev pub word_in : {A : Type 0} → List (List ℕ × A) → Tok → Option A
 word_in table (Keyword w) = look_up table w
 word_in table _ = None
 
--- ---- what is in front
+-- ---- the next tokens
 
 -- the word
 abbrev pub begins_word : List ℕ → List Tok → Bool
@@ -90,12 +90,12 @@ abbrev pub begins_string : List Tok → Bool
 begins_string (String s ∷ r) = true
 begins_string _ = false
 
--- nothing at all
+-- no token
 abbrev pub none_left : List Tok → Bool
 none_left [] = true
 none_left (_ ∷ r) = false
 
--- nothing, or what closes a group
+-- no token, or a `)`
 abbrev pub ends : List Tok → Bool
 ends [] = true
 ends (RParen ∷ r) = true
@@ -105,12 +105,12 @@ ends (_ ∷ r) = false
 abbrev pub more : List Tok → Bool
 more t = not (ends t)
 
--- a test of what follows the token in front; false at the end
+-- a test of the tokens after the next token; false at the end
 abbrev pub second : (List Tok → Bool) → List Tok → Bool
 second test [] = false
 second test (x ∷ r) = test r
 
--- a `(` in front
+-- a `(`
 abbrev pub begins_lparen : List Tok → Bool
 begins_lparen (LParen ∷ r) = true
 begins_lparen _ = false

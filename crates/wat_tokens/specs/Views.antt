@@ -1,23 +1,23 @@
--- What contracts see of a value, and which values own heap memory.
+-- Views of values, which contracts see, and which values own heap memory.
 use Rattle.std.specs.Prelude.{Bool, true, false, List, [], ◌∷◌, Option, Some, None}
 
--- of: what is seen of a value, without places and without references
+-- of: the view of a value, without positions and without references
 -- may_own: whether a value can hold a vector or a box
--- bare: the value that is seen holds no box, and no vector that isn't empty
+-- bare: whether the value with this view holds no box and no nonempty vector
 pub record ViewOf (X A : Type 0) : Type 0 where
   pub of : X → A
   pub may_own : Bool
   pub bare : A → Bool
 
--- of values that own nothing
+-- for values that own no memory
 abbrev pub plain : {X A : Type 0} → (X → A) → ViewOf X A
 plain f = record { of = f; may_own = false; bare = λ _. true }
 
--- of values that own memory unless they are bare
+-- for values that own memory unless they are bare
 abbrev pub owning : {X A : Type 0} → (X → A) → (A → Bool) → ViewOf X A
 owning f is_bare = record { of = f; may_own = true; bare = is_bare }
 
--- of values that own memory only where values of another type do
+-- for values that own memory only if values of another type do
 abbrev pub holding : {X A Y B : Type 0} → ViewOf X A → (Y → B) → (B → Bool) → ViewOf Y B
 holding v f is_bare = record { of = f; may_own = v.may_own; bare = is_bare }
 

@@ -5,8 +5,8 @@ use Rattle.wat_lexer.specs.Sight.{visible_tokens}
 use Rattle.wat_lexer.specs.Token.{Placed, tokens_of}
 use Rattle.wat_tokens.specs.Production.{Production}
 
--- the text is cut, and its tokens, visible with the five standard annotations known or not, spell
--- the value to the last one
+-- The text has a cut, and its visible tokens spell the value, to the last token. The first argument
+-- is whether the five standard annotations are known.
 abbrev pub TextSpells : {A : Type 0} → Bool → Production A → List ℕ → A → Type 0
 TextSpells known g text v =
     (ts : List Placed) × IsCut text ts × g.spells v (visible_tokens known (tokens_of ts)) []

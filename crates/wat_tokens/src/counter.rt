@@ -1,4 +1,4 @@
-//! Counters for contracts: their values exist in proofs alone.
+//! Counters for contracts: their values exist only in proofs.
 
 ghost use Rattle.std.specs.Prelude.{◌≡◌, ℕ, ◌+◌};
 ghost use Rattle.std.specs.Borrow.{ftrue};
@@ -26,7 +26,7 @@ impl Counter {
         Counter { seal: () }
     }
 
-    /// Returns a counter whose `count` is one more than that of `_before`.
+    /// Returns a counter whose `count` is one more than `_before.count`.
     fn after(_before: &Counter) -> Counter
         ensures { result.count ≡ _before.now.count + 1 }
     {

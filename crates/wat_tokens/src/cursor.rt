@@ -1,4 +1,4 @@
-//! Lookahead: what the next tokens are. A lookup takes no token.
+//! Lookahead at the next tokens. A lookup takes no token.
 
 ghost use Rattle.std.specs.Prelude.{◌≡◌, ◌≤◌, length, drop};
 ghost use Rattle.wat_lexer.specs.Sight.{hidden_count, visible_tokens};
@@ -9,14 +9,14 @@ use wat_lexer::number::Integer;
 use wat_lexer::token::Token;
 use wat_lexer::tokens::Tokens;
 
-/// A position in the tokens of a text. A lookup reads the token at the position, and takes nothing.
+/// A position in the tokens of a text. A lookup reads the token at the position, and doesn't take
+/// the token.
 ///
-/// If the next token has the kind that a lookup asks for, the lookup returns the position after
-/// that token, with the token's content. Otherwise it returns None, as it does at the end of the
-/// text.
+/// If the next token has the wanted kind, a lookup returns the position after that token, with the
+/// token's content. Otherwise, and at the end of the text, the lookup returns None.
 ///
-/// A lookup leaves out the group of an annotation that isn't known (Text Format, "Annotations"). It
-/// takes the same time for any number of such groups.
+/// A lookup skips the group of an annotation that isn't known (Text Format, "Annotations"). The
+/// lookup takes the same time for any number of such groups.
 #[derive(Clone, Copy)]
 pub struct Cursor<'p> {
     tokens: &'p Tokens<'p>,
@@ -35,8 +35,8 @@ impl<'p> Cursor<'p> {
     ghost use Rattle.wat_tokens.specs.Tests.{as_annotation, as_integer, as_string};
     ghost use Rattle.wat_tokens.specs.Tests.{begins_word, begins_group, begins_annotation};
 
-    /// Returns a cursor at the index `at`: that of a visible token, or the number of all tokens.
-    /// `known` says whether the five standard annotations are known.
+    /// Returns a cursor at the index `at`: the index of a visible token, or the number of all
+    /// tokens. If `known` is true, the five standard annotations are known.
     #[inline(always)]
     pub(crate) fn new(tokens: &'p Tokens<'p>, at: usize, known: bool) -> Cursor<'p>
         requires within { at ≤ length tokens.now }
@@ -71,8 +71,7 @@ impl<'p> Cursor<'p> {
         }
     }
 
-    /// If the next token is a `(`, returns the position after it. Only the kind of the token is
-    /// read.
+    /// If the next token is a `(`, returns the position after it. Reads only the token's kind.
     #[inline(always)]
     #[tactic(auto, using(crate::proofs::Steps::paren_steps, crate::proofs::Steps::front_steps))]
     pub fn lparen(self) -> Option<Cursor<'p>>
@@ -85,8 +84,7 @@ impl<'p> Cursor<'p> {
         }
     }
 
-    /// If the next token is a `)`, returns the position after it. Only the kind of the token is
-    /// read.
+    /// If the next token is a `)`, returns the position after it. Reads only the token's kind.
     #[inline(always)]
     #[tactic(auto, using(crate::proofs::Steps::paren_steps, crate::proofs::Steps::front_steps))]
     pub fn rparen(self) -> Option<Cursor<'p>>
@@ -139,7 +137,7 @@ impl<'p> Cursor<'p> {
     }
 
     /// If the next token is an annotation (Text Format, "Annotations"), returns its name without
-    /// the `@`, and the position after it. Of another token, only the kind is read.
+    /// the `@`, and the position after it. For any other token, reads only the kind.
     #[tactic(auto, using(crate::proofs::Steps::annotation_none, crate::proofs::Steps::front_steps))]
     pub fn annotation(self) -> Option<(&'p str, Cursor<'p>)>
         ensures { GivesContent (λ n. n.now) as_annotation (in_front self.entry) result }

@@ -1,7 +1,7 @@
 //! Values in parentheses, or after a keyword.
 //!
-//! These functions are generic because a body that holds a value of a large type across a call that
-//! may fail is slow to prove: it drops the value if the call fails.
+//! These functions are generic to keep proofs fast. A body that holds a value of a large type
+//! across a call that may fail has to drop the value if the call fails, and is slow to prove.
 
 ghost use Rattle.wat_tokens.specs.Groups.{group, paren};
 ghost use Rattle.wat_tokens.specs.Parts.{after_word};
@@ -14,7 +14,7 @@ use wat_lexer::fault::Error;
 
 /// Reads `(`, a `T` and `)`.
 ///
-/// Returns Unexpected if a parenthesis is missing, and the error of `T` if there is no `T`.
+/// Returns Unexpected if a parenthesis is missing, and the error of `T` if the `T` is invalid.
 pub fn in_parens<'a, T: Parse<'a> + Drop>(parser: &mut Parser<'a>) -> Result<T, Error>
     ensures reads { ReadsAt T.cost T.view (paren T.grammar) result parser.old parser.new }
 {
@@ -26,7 +26,7 @@ pub fn in_parens<'a, T: Parse<'a> + Drop>(parser: &mut Parser<'a>) -> Result<T, 
 
 /// Reads the keyword `word`, and then a `T`.
 ///
-/// Returns Unexpected if the keyword is missing, and the error of `T` if there is no `T`.
+/// Returns Unexpected if the keyword is missing, and the error of `T` if the `T` is invalid.
 pub fn after_word<'a, T: Parse<'a>>(parser: &mut Parser<'a>, word: &str) -> Result<T, Error>
     ensures reads { ReadsAt T.cost T.view (after_word word.now T.grammar) result parser.old
         parser.new }
@@ -37,8 +37,8 @@ pub fn after_word<'a, T: Parse<'a>>(parser: &mut Parser<'a>, word: &str) -> Resu
 
 /// Reads a group that begins with a keyword: `(`, `word`, a `T` and `)`.
 ///
-/// Returns Unexpected if a parenthesis or the keyword is missing, and the error of `T` if there is
-/// no `T`.
+/// Returns Unexpected if a parenthesis or the keyword is missing, and the error of `T` if the `T`
+/// is invalid.
 pub fn in_word_group<'a, T: Parse<'a> + Drop>(
     parser: &mut Parser<'a>,
     word: &str,
@@ -52,7 +52,7 @@ pub fn in_word_group<'a, T: Parse<'a> + Drop>(
     Ok(value)
 }
 
-/// A value in parentheses, as a type: it is parsed as by [`in_parens`].
+/// A value in parentheses, as a type. [`in_parens`] reads the value.
 #[derive(Drop)]
 pub struct Grouped<T>(pub T);
 

@@ -1,4 +1,4 @@
-//! Literals of floating-point numbers, which this parser doesn't read.
+//! Floating-point literals, which this parser doesn't read.
 
 ghost use Rattle.std.specs.Prelude.{◌≢◌, ℕ};
 ghost use Rattle.wat_tokens.specs.Error.{Memory};
@@ -10,24 +10,24 @@ use crate::parser::Parser;
 use crate::traits::Parse;
 use wat_lexer::fault::{Error, Fault};
 
-/// A floating-point number of 32 bits (Text Format, "Floating-Point"), by its bits. No text is read
-/// as one.
+/// A floating-point number of 32 bits (Text Format, "Floating-Point"), by its bits. No parse
+/// returns an `F32`.
 #[derive(Clone, Copy, Debug)]
 pub struct F32 {
     /// The bits.
     pub bits: u32,
 }
 
-/// A floating-point number of 64 bits (Text Format, "Floating-Point"), by its bits. No text is read
-/// as one.
+/// A floating-point number of 64 bits (Text Format, "Floating-Point"), by its bits. No parse
+/// returns an `F64`.
 #[derive(Clone, Copy, Debug)]
 pub struct F64 {
     /// The bits.
     pub bits: u64,
 }
 
-/// Returns whether the next token can be the literal of a number: whether it is an integer, a
-/// keyword or a reserved token.
+/// Returns whether the next token can be a number literal: an integer, a keyword or a reserved
+/// token.
 fn may_be_literal(cursor: Cursor<'_>) -> bool {
     let other = cursor.lparen().is_some()
         || cursor.rparen().is_some()
@@ -38,7 +38,7 @@ fn may_be_literal(cursor: Cursor<'_>) -> bool {
 }
 
 /// Returns the error of a missing literal, at the next token or at the end of the text:
-/// FloatLiteral if the token can be a literal of a number, else Unexpected.
+/// FloatLiteral if the token can be a number literal, else Unexpected.
 fn refused(parser: &Parser<'_>) -> Error
     ensures { result.fault ≢ Memory }
 {

@@ -20,8 +20,8 @@ use std::hash::{Hash, Hasher};
 use wat_lexer::fault::Error;
 use wat_lexer::span::Span;
 
-/// An identifier (Text Format, "Identifiers"): its name and its position. Equality and hashes go by
-/// the name alone.
+/// An identifier (Text Format, "Identifiers"): its name and its position. Equality and hashes use
+/// only the name.
 #[derive(Clone, Copy, Debug)]
 pub struct Id<'a> {
     name: &'a str,
@@ -29,7 +29,7 @@ pub struct Id<'a> {
 }
 
 impl<'a> Id<'a> {
-    /// Returns the identifier of `name`, which is given without its `$`, with the position `span`.
+    /// Returns the identifier with the name `name`, given without its `$`, and the position `span`.
     pub fn new(name: &'a str, span: Span) -> Id<'a>
         ensures name { name_of result ≡ name.now }
         ensures place { span_of result ≡ span }
@@ -37,14 +37,14 @@ impl<'a> Id<'a> {
         Id { name, span }
     }
 
-    /// The name, without the `$`.
+    /// Returns the name, without the `$`.
     pub fn name(&self) -> &'a str
         ensures { result.now ≡ name_of self.now }
     {
         self.name
     }
 
-    /// The offset in bytes at which the identifier begins, that of its `$`.
+    /// Returns the offset in bytes of the identifier's `$`.
     pub fn span(&self) -> Span
         ensures { result ≡ span_of self.now }
     {
@@ -79,8 +79,8 @@ impl Hash for Id<'_> {
     }
 }
 
-/// An index: a number or an identifier (Text Format, "Indices"). Equality and hashes go by the
-/// number or the name alone, and not by the position. A number is never equal to an identifier.
+/// An index: a number or an identifier (Text Format, "Indices"). Equality and hashes use only the
+/// number or the name, and not the position. A number is never equal to an identifier.
 #[derive(Clone, Copy, Debug)]
 pub enum Index<'a> {
     /// A number, and the offset in bytes at which it begins.
@@ -94,7 +94,7 @@ impl Index<'_> {
     ghost use Rattle.wat_tokens.specs.declared.index.Id as ids;
     ghost use Rattle.wat_tokens.specs.declared.index.Index.TheVariants as code;
 
-    /// The offset in bytes at which the index begins.
+    /// Returns the offset in bytes at which the index begins.
     pub fn span(&self) -> Span
         ensures number { (n : ℕ) (s : spans.Span) → self.now ≡ code.Num n s → result ≡ s }
         ensures name { (i : ids.Id) → self.now ≡ code.Id i → result ≡ span_of i }
@@ -178,8 +178,9 @@ impl<'p> Peek for Id<'p> {
     }
 }
 
-/// A number is a `u32`: without a `-`, and below 2^32. Returns Range, at the number, if it isn't,
-/// and Unexpected if the next token is neither an integer nor an identifier.
+/// A number is a `u32`: without a `-`, and below 2^32. Returns Range, at the number, if it has a
+/// `-` or is 2^32 or more. Returns Unexpected if the next token is neither an integer nor an
+/// identifier.
 impl<'a> Parse<'a> for Index<'a> {
     ghost View = { Idx };
 

@@ -14,8 +14,8 @@ use crate::traits::{Parse, Peek};
 use wat_lexer::fault::{Error, Fault};
 use wat_lexer::number::Integer;
 
-/// An integer of any value, as the text has it (Text Format, "Integers"). Returns Unexpected if the
-/// next token isn't an integer.
+/// An integer of any value, as written in the text (Text Format, "Integers"). Returns Unexpected if
+/// the next token isn't an integer.
 impl<'a> Parse<'a> for Integer<'a> {
     ghost View = { List ℕ };
 
@@ -58,7 +58,7 @@ impl<'a> Parse<'a> for u8 {
     }
 }
 
-/// Any integer, also one that is out of range.
+/// Any integer, also an integer that is out of range.
 impl Peek for u8 {
     ghost begins = { begins_integer };
 
@@ -87,7 +87,7 @@ impl<'a> Parse<'a> for u16 {
     }
 }
 
-/// Any integer, also one that is out of range.
+/// Any integer, also an integer that is out of range.
 impl Peek for u16 {
     ghost begins = { begins_integer };
 
@@ -116,7 +116,7 @@ impl<'a> Parse<'a> for u32 {
     }
 }
 
-/// Any integer, also one that is out of range.
+/// Any integer, also an integer that is out of range.
 impl Peek for u32 {
     ghost begins = { begins_integer };
 
@@ -145,7 +145,7 @@ impl<'a> Parse<'a> for u64 {
     }
 }
 
-/// Any integer, also one that is out of range.
+/// Any integer, also an integer that is out of range.
 impl Peek for u64 {
     ghost begins = { begins_integer };
 
@@ -188,7 +188,7 @@ impl<'a> Parse<'a> for i8 {
     }
 }
 
-/// Any integer, also one that is out of range.
+/// Any integer, also an integer that is out of range.
 impl Peek for i8 {
     ghost begins = { begins_integer };
 
@@ -218,7 +218,7 @@ impl<'a> Parse<'a> for i16 {
     }
 }
 
-/// Any integer, also one that is out of range.
+/// Any integer, also an integer that is out of range.
 impl Peek for i16 {
     ghost begins = { begins_integer };
 
@@ -248,7 +248,7 @@ impl<'a> Parse<'a> for i32 {
     }
 }
 
-/// Any integer, also one that is out of range.
+/// Any integer, also an integer that is out of range.
 impl Peek for i32 {
     ghost begins = { begins_integer };
 
@@ -278,7 +278,7 @@ impl<'a> Parse<'a> for i64 {
     }
 }
 
-/// Any integer, also one that is out of range.
+/// Any integer, also an integer that is out of range.
 impl Peek for i64 {
     ghost begins = { begins_integer };
 

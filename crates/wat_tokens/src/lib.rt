@@ -1,8 +1,8 @@
 //! Tokens of the WebAssembly text format, and a parser that takes them one by one.
 //!
 //! [`Parser::new`] cuts a text into tokens (WebAssembly Core Specification, Text Format, "Lexical
-//! Format"). A type implements [`Parse`] if its values can be read, and [`Peek`] if the next tokens
-//! tell whether one begins. All offsets are in bytes from the start of the text.
+//! Format"). A type implements [`Parse`] if its values can be read, and [`Peek`] if its values are
+//! recognized by lookahead. All offsets are in bytes from the start of the text.
 #![tactic(auto)]
 
 pub mod counter;

@@ -1,4 +1,4 @@
-//! Annotations that give names (Appendix, "Custom Sections and Annotations", "Name Annotations").
+//! Name annotations (Appendix, "Custom Sections and Annotations", "Name Annotations").
 
 ghost use Rattle.std.specs.Prelude.{◌≡◌, List, ℕ};
 ghost use Rattle.wat_tokens.specs.Lookup.{in_front};
@@ -10,16 +10,16 @@ use crate::parser::Parser;
 use crate::traits::{Parse, Peek};
 use wat_lexer::fault::Error;
 
-/// `( @name name )`: a name that the text gives to a module, a field or the like (Appendix, "Custom
-/// Sections and Annotations", "Name Annotations"). It can be read only while the annotation `name`
-/// is known.
+/// `( @name name )`: the name of a module, a field or the like (Appendix, "Custom Sections and
+/// Annotations", "Name Annotations"). The parser reads name annotations only while the annotation
+/// `name` is known.
 #[derive(Clone, Copy, Debug)]
 pub struct NameAnnotation<'a> {
     /// The name.
     pub name: &'a str,
 }
 
-/// Returns Unexpected if a token isn't the one that is needed, and Utf8, at the string, if the name
+/// Returns Unexpected if a token isn't the expected token, and Utf8, at the string, if the name
 /// isn't UTF-8.
 impl<'a> Parse<'a> for NameAnnotation<'a> {
     ghost View = { List ℕ };

@@ -1,4 +1,4 @@
-//! Where the next visible token is.
+//! The index of the next visible token.
 
 ghost use Rattle.std.specs.Prelude.{◌≤◌, length};
 ghost use Rattle.wat_lexer.specs.View.{AreSkips, IsNextVisible};
@@ -7,7 +7,7 @@ use wat_lexer::hidden;
 use wat_lexer::tokens::Tokens;
 
 /// Returns the index of the first visible token from the index `at` on, or the number of all
-/// tokens. It is `at`, unless the token after that one is an annotation.
+/// tokens if none follows. The index is `at` unless the token at `at + 1` is an annotation.
 #[inline(always)]
 #[tactic(auto, using(crate::proofs::Steps::sight_steps))]
 pub(crate) fn next_visible(tokens: &Tokens, at: usize, known: bool) -> usize
@@ -23,8 +23,8 @@ pub(crate) fn next_visible(tokens: &Tokens, at: usize, known: bool) -> usize
     }
 }
 
-/// Returns the same index, without a test first whether it is `at`.
-// Few groups begin with an annotation. Inlined it would take registers from every step.
+/// Returns the same index as [`next_visible`], without the test for an annotation at `at + 1`.
+// Few groups begin with an annotation. If this call were inlined, every step would lose registers.
 #[inline(never)]
 fn behind_hidden(tokens: &Tokens, at: usize, known: bool) -> usize
     requires within { at ≤ length tokens.now }

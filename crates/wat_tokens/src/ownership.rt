@@ -1,6 +1,6 @@
 //! Calls that store or drop a value.
 //!
-//! A body that drops a value of a large type is slow to prove, since the drop is written out in it,
+//! A body that drops a value of a large type is slow to prove, since the proof expands the drop
 //! variant by variant. Here the type is a parameter, so that the drop is one call.
 
 ghost use Rattle.std.specs.Prelude.{◌≡◌, ◌∷◌, ◌++◌, [], MatchResult};
@@ -9,8 +9,8 @@ use wat_lexer::fault::{Error, Fault};
 
 /// Appends `value` to `list`. If memory runs out, returns Memory, drops the value and leaves the
 /// list as it was.
-// Most lists have one value. So an empty one gets room for one and not for four: what a list gives
-// back at its end takes time, and a small piece stays a hole.
+// Most lists have one value. So an empty list gets room for one value and not for four. To give
+// back unused room at the end takes time, and leaves a small hole in the heap.
 #[inline(always)]
 pub fn push_into<T: Drop>(list: &mut Vec<T>, value: T) -> Result<(), Error>
     ensures { MatchResult result (λ _. list.new.items ≡ list.old.items ++ value ∷ []) (λ e. (e.fault

@@ -36,23 +36,23 @@ use wat_lexer::tokens::Tokens;
 
 /// Takes the tokens of a text, from the first to the last.
 ///
-/// The parser is directly after the last token that it took. It leaves out the group of an
-/// annotation that isn't known (Text Format, "Annotations"), as a whole. At first no annotation is
-/// known; [`with_standard_annotations`](Parser::with_standard_annotations) makes five of them
+/// The parser's position is directly after the last token that it took. The parser skips the whole
+/// group of an annotation that isn't known (Text Format, "Annotations"). At first no annotation is
+/// known; [`with_standard_annotations`](Parser::with_standard_annotations) makes five annotations
 /// known.
 ///
-/// A call that takes one token takes it if it is the next one. Otherwise the call returns
-/// Unexpected and leaves the parser as it was. The error's offset is that of the next token, or of
-/// the end of the text.
+/// A call that takes one token returns Unexpected if the next token isn't of the wanted kind, and
+/// then leaves the parser unchanged. The error's offset is that of the next token, or the length
+/// of the text if no token is left.
 ///
-/// The names and strings that it returns live as long as the text and the arena. Contracts see a
-/// parser as a `State`: the tokens that are left, the settings, and the counts.
+/// The names and strings that the parser returns live as long as the text and the arena. Contracts
+/// see a parser as a `State`: the tokens that are left, the settings, and the counts.
 #[derive(Drop)]
 pub struct Parser<'a> {
     tokens: Tokens<'a>,
-    /// The index after that of the last token that was taken; 0 before any.
+    /// The index after that of the last token that was taken; 0 if no token was taken.
     at: usize,
-    /// The index of the next token: of the first visible one from `at` on.
+    /// The index of the next token: the first visible token from `at` on.
     front: usize,
     /// The length of the text in bytes.
     end: usize,
@@ -133,8 +133,7 @@ impl<'a> Parser<'a> {
     }
 
     /// Makes the five standard annotations known or unknown: `custom`, `producers`, `name`,
-    /// `dylink.0` and `metadata.code.branch_hint`. The parser stays after the token that it took
-    /// last.
+    /// `dylink.0` and `metadata.code.branch_hint`. The parser's position doesn't change.
     pub fn with_standard_annotations(&mut self, on: bool)
         ensures value { self.new ≡ record self.old {
           known = on;
@@ -153,7 +152,7 @@ impl<'a> Parser<'a> {
         self.known
     }
 
-    /// Sets whether expressions keep the position of each instruction. At first they don't.
+    /// Sets whether expressions keep the position of each instruction. The default is false.
     pub fn track_instr_spans(&mut self, on: bool)
         ensures { self.new ≡ record self.old { tracks = on } }
     {
@@ -205,21 +204,20 @@ impl<'a> Parser<'a> {
         self.held = self.held.max(heads);
     }
 
-    /// Returns the allocator that the parser was made with. Values that are read take heap memory
-    /// from it.
+    /// Returns the parser's allocator. Values that are read allocate heap memory with it.
     pub fn alloc(&self) -> Global {
         self.alloc
     }
 
-    /// Returns a cursor at the next token, for lookups.
+    /// Returns a cursor at the next token, for lookahead.
     pub fn cursor(&self) -> Cursor<'_>
         ensures { in_front result ≡ self.now.left }
     {
         Cursor::new(&self.tokens, self.front, self.known)
     }
 
-    /// Returns the offset in bytes of the next token, or the length of the text if none is left. No
-    /// contract says which offset it is.
+    /// Returns the offset in bytes of the next token, or the length of the text if no token is
+    /// left. No contract describes this offset.
     pub fn cur_span(&self) -> Span {
         if self.front < self.tokens.len() {
             Span::from_offset(self.tokens.offset(self.front))
@@ -228,8 +226,8 @@ impl<'a> Parser<'a> {
         }
     }
 
-    /// Returns the offset in bytes of the last token that was taken, or 0 before any. No contract
-    /// says which offset it is.
+    /// Returns the offset in bytes of the last token that was taken, or 0 if no token was taken. No
+    /// contract describes this offset.
     pub fn prev_span(&self) -> Span {
         if self.at > 0 {
             Span::from_offset(self.tokens.offset(self.at - 1))
@@ -238,7 +236,8 @@ impl<'a> Parser<'a> {
         }
     }
 
-    /// Returns the error Unexpected, at the next token, or at the end of the text if none is left.
+    /// Returns the error Unexpected, at the next token, or at the end of the text if no token is
+    /// left.
     #[cold]
     #[inline(never)]
     pub fn unexpected(&self) -> Error
@@ -254,7 +253,7 @@ impl<'a> Parser<'a> {
         self.first().is_none()
     }
 
-    /// Returns whether the group ends here: whether no token is left, or the next one is a `)`.
+    /// Returns whether the group or the text ends here: no token is left, or the next token is `)`.
     #[tactic(auto, using(crate::proofs::Steps::paren_steps, crate::proofs::Steps::visible_steps))]
     pub fn is_empty(&self) -> bool
         ensures { result ≡ ends self.now.left }
@@ -281,7 +280,7 @@ impl<'a> Parser<'a> {
         self.cursor().group_is(word)
     }
 
-    /// Returns whether the token after the next one is the keyword `word`.
+    /// Returns whether the token after the next token is the keyword `word`.
     #[inline(always)]
     pub fn second_is(&self, word: &str) -> bool
         ensures { result ≡ second (begins_word word.now) self.now.left }
@@ -324,8 +323,8 @@ impl<'a> Parser<'a> {
         self.cursor().lparen().is_some()
     }
 
-    /// Returns whether the next token is a `(`. The contract is the one that [`open`](Parser::open)
-    /// needs.
+    /// Returns whether the next token is a `(`. This contract has the form that
+    /// [`open`](Parser::open) needs.
     #[tactic(auto, using(crate::proofs::Steps::paren_steps, crate::proofs::Steps::visible_steps))]
     fn at_lparen(&self) -> bool
         ensures { MatchBool result (self.now.left ≡ LParen ∷ drop 1 self.now.left)
@@ -360,7 +359,7 @@ impl<'a> Parser<'a> {
         self.taken.tick();
     }
 
-    /// Takes the next token, as `advance` does. The contract has the clause `counts` too.
+    /// Takes the next token, as `advance` does. The contract adds the clause `counts`.
     fn step(&mut self)
         requires { self.old.left ≢ [] }
         ensures left { self.new.left ≡ drop 1 self.old.left }
@@ -374,7 +373,7 @@ impl<'a> Parser<'a> {
         self.advance();
     }
 
-    /// Takes a `(`. Returns Unexpected if the next token isn't one.
+    /// Takes a `(`. Returns Unexpected if the next token isn't a `(`.
     #[inline(always)]
     pub fn open(&mut self) -> Result<(), Error>
         ensures reads { Takes (λ x. x) as_lparen result self.old self.new }
@@ -388,7 +387,7 @@ impl<'a> Parser<'a> {
         Ok(())
     }
 
-    /// Takes a `)`. Returns Unexpected if the next token isn't one.
+    /// Takes a `)`. Returns Unexpected if the next token isn't a `)`.
     pub fn close(&mut self) -> Result<(), Error>
         ensures reads { Takes (λ x. x) as_rparen result self.old self.new }
         ensures refused { Unmoved result self.old self.new }
@@ -402,7 +401,7 @@ impl<'a> Parser<'a> {
     }
 
     /// Takes the keyword `word` (Text Format, "Tokens"), and returns its offset in bytes. Returns
-    /// Unexpected if it isn't the next token.
+    /// Unexpected if the next token isn't this keyword.
     #[inline(always)]
     pub fn keyword(&mut self, word: &str) -> Result<Span, Error>
         ensures reads { Takes (λ _. tt) (word_only word.now) result self.old self.new }
@@ -434,7 +433,7 @@ impl<'a> Parser<'a> {
     }
 
     /// Takes the annotation `name` (Text Format, "Annotations"), which is given without its `@`,
-    /// and returns its offset in bytes. Returns Unexpected if it isn't the next token.
+    /// and returns its offset in bytes. Returns Unexpected if the next token isn't this annotation.
     pub fn take_annotation(&mut self, name: &str) -> Result<Span, Error>
         ensures reads { Takes (λ _. tt) (annotation_only name.now) result self.old self.new }
         ensures refused { Unmoved result self.old self.new }
@@ -451,7 +450,7 @@ impl<'a> Parser<'a> {
     }
 
     /// Takes any keyword (Text Format, "Tokens"), and returns it. Returns Unexpected if the next
-    /// token isn't one.
+    /// token isn't a keyword.
     #[inline(always)]
     pub fn take_keyword(&mut self) -> Result<&'a str, Error>
         ensures reads { Takes (λ x. x.now) as_keyword result self.old self.new }
@@ -468,7 +467,7 @@ impl<'a> Parser<'a> {
     }
 
     /// Takes an identifier (Text Format, "Identifiers"), and returns its name without the `$`.
-    /// Returns Unexpected if the next token isn't one.
+    /// Returns Unexpected if the next token isn't an identifier.
     #[inline(always)]
     pub fn take_id(&mut self) -> Result<&'a str, Error>
         ensures reads { Takes (λ x. x.now) as_id result self.old self.new }
@@ -485,7 +484,7 @@ impl<'a> Parser<'a> {
     }
 
     /// Takes an integer (Text Format, "Integers") of any value, and returns it. Returns Unexpected
-    /// if the next token isn't one.
+    /// if the next token isn't an integer.
     #[inline(always)]
     pub fn take_integer(&mut self) -> Result<Integer<'a>, Error>
         ensures reads { Takes text_of as_integer result self.old self.new }
@@ -502,7 +501,7 @@ impl<'a> Parser<'a> {
     }
 
     /// Takes a string (Text Format, "Strings"), and returns its decoded bytes. Returns Unexpected
-    /// if the next token isn't one.
+    /// if the next token isn't a string.
     #[inline(always)]
     pub fn take_string(&mut self) -> Result<&'a [u8], Error>
         ensures reads { Takes (λ x. x.now) as_string result self.old self.new }

@@ -18,19 +18,19 @@ use wat_lexer::fault::Error;
 
 /// How to read a list of parts, each part as a `V`, and where the list ends.
 pub trait Part<'a, V> {
-    /// What contracts see of a part.
+    /// The type of a part's view, which contracts see.
     ghost View: { Type 0 };
 
-    /// How contracts see a part, and whether it owns heap memory.
+    /// The view of each part, and whether parts own heap memory.
     ghost view: { ViewOf V View };
 
-    /// What a call may count besides the tokens that it takes.
+    /// The counters that a call may change besides `taken`.
     ghost cost: { Cost } = { tokens_alone };
 
-    /// Which tokens spell a part, and how they are read.
+    /// Which tokens spell a part, and how a call reads them.
     ghost grammar: { Production View };
 
-    /// Which tokens mean that one more part has to follow.
+    /// Whether the next tokens mean that one more part has to follow.
     ghost follows: { List Tok → Bool };
 
     /// Returns whether one more part has to follow.
@@ -42,8 +42,8 @@ pub trait Part<'a, V> {
         ensures reads { ReadsAt cost view grammar result parser.old parser.new };
 }
 
-/// Takes parts as long as one has to follow, and appends each to `out`. If a part fails, returns
-/// its error. In any case, what `out` had before the call stays.
+/// Takes parts as long as one more has to follow, and appends each part to `out`. If a part fails,
+/// returns its error. The items that `out` had before the call stay, also on an error.
 pub fn parts<'a, V: Drop, P: Part<'a, V>>(
     parser: &mut Parser<'a>,
     out: &mut Vec<V>,
@@ -63,19 +63,19 @@ pub fn parts<'a, V: Drop, P: Part<'a, V>>(
 /// How to read groups that each hold any number of parts, each part as a `V`, and where the groups
 /// end.
 pub trait Group<'a, V> {
-    /// What contracts see of a part.
+    /// The type of a part's view, which contracts see.
     ghost View: { Type 0 };
 
-    /// How contracts see a part, and whether it owns heap memory.
+    /// The view of each part, and whether parts own heap memory.
     ghost view: { ViewOf V View };
 
-    /// What a call may count besides the tokens that it takes.
+    /// The counters that a call may change besides `taken`.
     ghost cost: { Cost } = { tokens_alone };
 
-    /// Which tokens spell a group, as the list of its parts, and how they are read.
+    /// Which tokens spell a group, as the list of its parts, and how a call reads them.
     ghost grammar: { Production (List View) };
 
-    /// Which tokens mean that one more group has to follow.
+    /// Whether the next tokens mean that one more group has to follow.
     ghost follows: { List Tok → Bool };
 
     /// Returns whether one more group has to follow.
@@ -83,7 +83,7 @@ pub trait Group<'a, V> {
         ensures { result ≡ follows parser.now.left };
 
     /// Takes the next group, and appends each of its parts to `out`. Fails as [`Parse::parse`]
-    /// does. In any case, what `out` had before the call stays.
+    /// does. The items that `out` had before the call stay, also on an error.
     fn take(parser: &mut Parser<'a>, out: &mut Vec<V>) -> Result<(), Error>
         ensures reads { Call cost (owning (λ _. map view.of out.new.items) no_items)
             (after_front (map view.of out.old.items) (grammar.reads parser.old.left)) result
@@ -91,8 +91,8 @@ pub trait Group<'a, V> {
         ensures kept { Extends out.old.items out.new.items };
 }
 
-/// Takes groups as long as one has to follow, and appends the parts of each to `out`. If a group
-/// fails, returns its error. In any case, what `out` had before the call stays.
+/// Takes groups as long as one more has to follow, and appends their parts to `out`. If a group
+/// fails, returns its error. The items that `out` had before the call stay, also on an error.
 pub fn groups<'a, V: Drop, G: Group<'a, V>>(
     parser: &mut Parser<'a>,
     out: &mut Vec<V>,
@@ -132,7 +132,7 @@ impl<'a, T: Parse<'a>> Part<'a, T> for ToEnd {
     }
 }
 
-/// Values as long as the next tokens begin one.
+/// Values as long as the next tokens begin a value.
 struct WhileBegun;
 
 impl<'a, T: Parse<'a> + Peek> Part<'a, T> for WhileBegun {
@@ -156,7 +156,7 @@ impl<'a, T: Parse<'a> + Peek> Part<'a, T> for WhileBegun {
 }
 
 /// Takes values up to the end of the group or of the text, and appends each to `out`. If a value
-/// fails, returns its error. In any case, what `out` had before the call stays.
+/// fails, returns its error. The items that `out` had before the call stay, also on an error.
 pub fn rest_of_group<'a, T: Parse<'a> + Drop>(
     parser: &mut Parser<'a>,
     out: &mut Vec<T>,
@@ -170,8 +170,8 @@ pub fn rest_of_group<'a, T: Parse<'a> + Drop>(
     parts::<T, ToEnd>(parser, out)
 }
 
-/// Takes values as long as the next tokens begin one, and appends each to `out`. If a value fails,
-/// returns its error. In any case, what `out` had before the call stays.
+/// Takes values as long as the next tokens begin a value, and appends each to `out`. If a value
+/// fails, returns its error. The items that `out` had before the call stay, also on an error.
 pub fn while_begun<'a, T: Parse<'a> + Peek + Drop>(
     parser: &mut Parser<'a>,
     out: &mut Vec<T>,

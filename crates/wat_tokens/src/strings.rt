@@ -41,7 +41,7 @@ impl<'p> Peek for &'p [u8] {
 }
 
 /// A string whose decoded bytes are UTF-8 (Text Format, "Names"). Returns Unexpected if the next
-/// token isn't a string, and Utf8, at the string, if it isn't UTF-8.
+/// token isn't a string, and Utf8, at the string, if the decoded bytes aren't UTF-8.
 impl<'a> Parse<'a> for &'a str {
     ghost View = { List ℕ };
 
@@ -59,7 +59,7 @@ impl<'a> Parse<'a> for &'a str {
     }
 }
 
-/// Any string, also one that isn't UTF-8.
+/// Any string, also a string that isn't UTF-8.
 impl<'p> Peek for &'p str {
     ghost begins = { begins_string };
 

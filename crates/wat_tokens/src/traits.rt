@@ -19,24 +19,26 @@ use wat_lexer::fault::Error;
 
 /// A type whose values can be read from tokens.
 pub trait Parse<'a>: Sized {
-    /// What contracts see of a value: without positions and references.
+    /// The type of a value's view, which contracts see: without positions and references.
     ghost View: { Type 0 };
 
-    /// How contracts see a value, and whether it owns heap memory.
+    /// The view of each value, and whether values own heap memory.
     ghost view: { ViewOf Self View };
 
-    /// What a parse may count besides the tokens that it takes.
+    /// The counters that a parse may change besides `taken`.
     ghost cost: { Cost } = { tokens_alone };
 
-    /// Which tokens spell a value, and how they are read.
+    /// Which tokens spell a value, and how a parse reads them.
     ghost grammar: { Production View };
 
     /// Takes the tokens of the next value, and returns the value.
     ///
     /// If the next tokens spell no value, returns the first error that the parse meets. The parser
-    /// then has some suffix of its tokens left. Memory can be returned only if the value holds a
-    /// box or a list that isn't empty or, if the tokens spell no value, only if the type can hold
-    /// one.
+    /// then has some suffix of its tokens left.
+    ///
+    /// If the next tokens spell a value, returns Memory only if the value holds a box or a
+    /// nonempty list. If they spell no value, returns Memory only if the type can hold a box or a
+    /// list.
     fn parse(parser: &mut Parser<'a>) -> Result<Self, Error>
         ensures reads { ReadsAt cost view grammar result parser.old parser.new };
 }
@@ -50,8 +52,8 @@ pub trait Peek {
     fn peek(cursor: Cursor<'_>) -> bool
         ensures { result ≡ begins (in_front cursor.entry) };
 
-    /// Returns whether the tokens after the one at the cursor begin a value; false if there is no
-    /// token at the cursor.
+    /// Returns whether the tokens after the cursor's next token begin a value. Returns false if no
+    /// token is left.
     fn peek2(cursor: Cursor<'_>) -> bool
         ensures { result ≡ second begins (in_front cursor.entry) }
     {
@@ -61,7 +63,7 @@ pub trait Peek {
         }
     }
 
-    /// What messages call a value.
+    /// Returns the name that messages use for such a value.
     fn display() -> &'static str;
 }
 
@@ -71,15 +73,15 @@ impl<'a> Parser<'a> {
     /// If the next tokens spell no value, returns the first error that the parse meets. The parser
     /// then has some suffix of its tokens left.
     pub fn parse<T: Parse<'a>>(&mut self) -> Result<T, Error>
-        // The tokens that were taken spell the value. Where tokens in front spell one, it is that
-        // one, or memory ran out: `sound`, `accepts`, `refused`.
+        // The tokens that were taken spell the value. If the next tokens spell a value, the call
+        // returns that value or Memory: `sound`, `accepts`, `refused`.
         ensures reads { ReadsPrefix T.view T.grammar result self.old self.new }
-        // Memory comes only of a type that can hold a vector or a box.
+        // Only types that can hold a vector or a box return Memory.
         ensures memory { IfErr result (λ e. e.fault ≡ Memory → T.view.may_own ≡ true) }
-        // What is left is an end of the tokens in front, also on a refusal, and what was taken is
+        // The tokens left are a suffix of the old ones, also on an error. The tokens taken are
         // counted: `end`, `position`, `taken`, `within`, `peak`, `grows`.
         ensures takes { TakesPrefix self.old self.new }
-        // `turns` rises at most as much as `taken`, and on a refusal at most one more.
+        // `turns` rises at most as much as `taken`, or by one more on an error.
         ensures turned { Turned result self.old self.new }
         ensures exact { Gives T.view result (T.grammar.reads self.old.left) self.new.left }
         ensures counts { Counted result self.old self.new }
@@ -97,7 +99,8 @@ impl<'a> Parser<'a> {
         T::peek(self.cursor())
     }
 
-    /// Returns whether the tokens after the next one begin a `T`; false if no token is left.
+    /// Returns whether the tokens after the next token begin a `T`. Returns false if no token is
+    /// left.
     #[inline(always)]
     pub fn peek2<T: Peek>(&self) -> bool
         ensures { result ≡ second T.begins self.now.left }

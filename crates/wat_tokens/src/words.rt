@@ -12,16 +12,17 @@ use wat_lexer::fault::{Error, Fault};
 
 /// A type with values that keywords name (Text Format, "Tokens"). Each keyword names one value.
 pub trait NamedByKeyword: Copy {
-    /// The keywords, each with the value that it names.
+    /// Each keyword with the value that it names.
     ghost words: { List (List ℕ × Self) };
 
-    /// Returns the value that the keyword `word` names, or None if it names none.
+    /// Returns the value that the keyword `word` names, or None if `word` names no value.
     fn named(word: &str) -> Option<Self>
         ensures { result ≡ look_up words word.now };
 }
 
 /// Takes the next keyword, and returns the value that it names. Returns Unexpected, at the next
-/// token, if that isn't a keyword or names no value. In the second case the keyword is taken.
+/// token, if that token isn't a keyword, or is a keyword that names no value. Such a keyword is
+/// taken.
 #[tactic(auto, using(crate::specs::Laws::Begin::table_reads))]
 pub fn take_named<'a, T: NamedByKeyword>(parser: &mut Parser<'a>) -> Result<T, Error>
     ensures reads { Takes (λ v. v) (word_in T.words) result parser.old parser.new }

@@ -8,7 +8,7 @@ use crate::parser::Parser;
 use crate::traits::{Parse, Peek};
 use wat_lexer::fault::Error;
 
-/// A `T` if the next tokens begin one. Otherwise None, and no token is taken.
+/// A `T` if the next tokens begin a `T`. Otherwise None, and the parse takes no token.
 impl<'a, T: Parse<'a> + Peek> Parse<'a> for Option<T> {
     ghost View = { Option T.View };
 

@@ -1,4 +1,4 @@
--- In a twin no visible float literal is left behind a word behind which floats stand.
+-- In a twin, no visible float literal directly follows a word that takes floats.
 use Rattle.std.proofs.Common.{◌≡◌, ℕ, List, [], ◌∷◌, refl}
 use Rattle.std.specs.Prelude.{Bool, true, false, not, ◌&&◌, ◌||◌, codes, if◌then◌else◌}
 use Rattle.std.specs.Str.{bytes_eq}
@@ -12,7 +12,7 @@ use Rattle.wat_twin.specs.declared.change.Change.TheVariants as of
 use Rattle.wat_twin.proofs.Changes.{Fits, fits, no_literal}
 use Rattle.wat_twin.proofs.Seen.{row_twin, visible_twin}
 
--- the word with an `i` is no literal, and no word behind which floats stand
+-- the word with an `i` isn't a literal, and doesn't take floats
 abbrev Tame : Tok → Type 0
 Tame t = (is_literal t ≡ false) × (is_float_word true t ≡ false) × (is_float_word false t ≡ false)
 
@@ -71,7 +71,7 @@ no_word : (o : Bool) (t : Tok) → Tame t → is_float_word o t ≡ false
 no_word true t h = h.1
 no_word false t h = h.2
 
--- a token behind one that stays is a literal only where it was
+-- a token that isn't a literal, and follows an unchanged token, doesn't become a literal
 literal_by : (w l : Bool) (o : Bool) (s : Tok) → is_literal s ≡ false → is_float_word o s ≡ w → is_literal (changed (if w && l then of.Word else of.Keep) s) ≡ false
 literal_by true true o s h k = (tame o s k).0
 literal_by true false o s h k = h
@@ -88,7 +88,7 @@ no_literal_behind : (a b : Bool) → b ≡ false → not (a && b) ≡ true
 no_literal_behind true b h = rw h refl
 no_literal_behind false b h = refl
 
--- neither a literal behind it is left where the token is such a word
+-- after the changes, the token doesn't take floats, or no literal follows
 abbrev Left : Bool → Change → Tok → List Tok → Bool
 Left opened c t ts = not (is_float_word opened (changed c t) && begins_literal (row_twin (is_open t) (is_changed c) ts))
 

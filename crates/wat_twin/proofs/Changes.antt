@@ -1,4 +1,4 @@
--- What fits a token that changes, and what becomes of tokens fits them.
+-- The changes that fit a token, and the changes of tokens, which fit them.
 use Rattle.std.proofs.Common.{◌≡◌, ℕ, ◌<◌, List, [], ◌∷◌, length, refl, sym, ◌∙◌, arith}
 use Rattle.std.specs.Prelude.{Bool, true, false, ◌&&◌, if◌then◌else◌, Option, None, Some}
 use Rattle.wat_lexer.specs.Cut.{Token, Begins, in_no_run, Idchars}
@@ -28,7 +28,7 @@ picked false l false b opened t h k = tt
 pub fits : (opened row followed : Bool) (t : Tok) → Fits (change_of opened row followed t) t
 fits opened row followed t = picked row (is_literal t) (is_float_word opened t) followed opened t refl refl
 
--- each fits its token
+-- each change fits its token
 abbrev pub AllFit : List Change → List Tok → Type 0
 AllFit [] [] = Unit {0}
 AllFit [] (t ∷ ts) = ⊥

@@ -56,7 +56,7 @@ unfolding place_after
 wrong_stays hex [] = refl
 wrong_stays hex (c ∷ t) = rw (same_either (is_digit hex c) at.Wrong) (wrong_stays hex t)
 
--- a place that isn't wrong
+-- a place other than `Wrong`
 abbrev is_right : Place → Bool
 is_right at.Wrong = false
 is_right _ = true
@@ -140,7 +140,7 @@ float_idchars x h = sign_chars x (magnitude_chars (without_sign x) h)
 
 -- INTEGERS
 
--- a place in the digits in front of the point
+-- a place in the digits before the point
 abbrev digits_place : Bool → Place
 digits_place true = at.Whole
 digits_place false = at.WholeGap
@@ -166,7 +166,7 @@ digits_last hex true n [] h = refl
 digits_last hex false n [] h = h
 digits_last hex behind n (c ∷ t) h = gap_next hex behind (is_digit hex c) (c == 95) c n t refl refl (rw (digit_is hex c) h) (λ b m k. digits_last hex b m t k)
 
--- (before the first digit it is as behind a `_`)
+-- (the place before the first digit is treated as a place after a `_`)
 number_last : (hex : Bool) (x : List ℕ) → is_some (number (base_of hex) x) ≡ true → is_last (place_after hex at.Start x) ≡ true
 unfolding read place_after
 number_last hex [] h = h

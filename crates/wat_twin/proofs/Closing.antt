@@ -1,4 +1,4 @@
--- The groups of changed tokens are closed where those of the tokens are.
+-- The groups of changed tokens are closed if the groups of the tokens are closed.
 use Rattle.std.proofs.Common.{◌≡◌, ℕ, zero, suc, ◌+◌, ◌-◌, List, [], ◌∷◌, drop, refl, sym, ◌∙◌, subst}
 use Rattle.std.specs.Prelude.{Bool, true, false, Option, Some, None, if◌then◌else◌}
 use Rattle.wat_lexer.specs.Cut.{Closed}
@@ -9,7 +9,7 @@ use Rattle.wat_twin.specs.declared.change.Change.{Change}
 use Rattle.wat_twin.specs.declared.change.Change.TheVariants as of
 use Rattle.wat_twin.proofs.Changes.{Fits, AllFit, no_literal}
 
--- the tokens nest alike
+-- the two tokens change the depth of groups in the same way
 abbrev Alike : Tok → Tok → Type 0
 Alike t u = (d : ℕ) → (shuts u d ≡ shuts t d) × (deeper u d ≡ deeper t d)
 

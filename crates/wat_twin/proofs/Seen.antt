@@ -21,7 +21,7 @@ group_front (LParen ∷ []) h = cc
 group_front (LParen ∷ _ ∷ r) h = cc
 group_front (_ ∷ r) h = cc
 
--- it stays
+-- a hidden group still begins there after the changes
 group_stays : (opened row : Bool) (t : Tok) (ts : List Tok) → begins_hidden_group false (t ∷ ts) ≡ true → begins_hidden_group false (t ∷ all_changed (changes opened row (Some 0) ts) ts) ≡ true
 unfolding changes
 group_stays opened row LParen (Annotation n ∷ r) h = refl
@@ -29,7 +29,7 @@ group_stays opened row LParen [] h = cc
 group_stays opened row LParen (_ ∷ r) h = cc
 group_stays opened row _ ts h = cc
 
--- and none is made
+-- the changes make no new hidden group
 group_was : (cs : List Change) (ts : List Tok) → begins_hidden_group false (all_changed cs ts) ≡ true → begins_hidden_group false ts ≡ true
 group_was [] ts h = cc
 group_was (c ∷ cs) [] h = cc
@@ -67,7 +67,7 @@ unfolding visible changes
 seen_in true opened row depth t ts e go = rw e (go opened row None)
 seen_in false opened row depth t ts e go = rw e (go opened row (Some (deeper t depth)))
 
--- the visible tokens of the twin are the twin of those that are visible
+-- the visible tokens of the twin are the twin of the visible tokens
 seen : (opened row : Bool) (place : Option ℕ) (ts : List Tok) → visible false place (all_changed (changes opened row place ts) ts) ≡ row_twin opened row (visible false place ts)
 unfolding visible changes
 seen opened row place [] = refl
@@ -87,7 +87,7 @@ none_hidden : (x : Entry) (ls : List Entry) → begins_hidden_group false (toks 
 unfolding hidden_count_at
 none_hidden x ls e = rw e refl
 
--- at hidden groups in front nothing is exchanged
+-- hidden groups in front have no patches
 skip_by : (hidden : Bool) (opened row : Bool) (x : Entry) (ls : List Entry) → begins_hidden_group false (toks (x ∷ ls)) ≡ hidden → ((place : Option ℕ) → patches (changes opened row place (toks ls)) (placed ls) ≡ patches (changes opened row None (toks (drop (hidden_count_at false place (toks ls)) ls))) (placed (drop (hidden_count_at false place (toks ls)) ls))) → patches (changes opened row None (toks (x ∷ ls))) (placed (x ∷ ls)) ≡ patches (changes opened row None (toks (drop (hidden_count_at false None (toks (x ∷ ls))) (x ∷ ls)))) (placed (drop (hidden_count_at false None (toks (x ∷ ls))) (x ∷ ls)))
 unfolding hidden_count_at changes
 skip_by true opened row x ls e go = rw e (go (Some 0))
@@ -108,13 +108,13 @@ pub skip_patches : (opened row : Bool) (ls : List Entry) → patches (changes op
 unfolding hidden_count
 skip_patches opened row ls = skip_at opened row None ls
 
--- the first token is visible where none is hidden in front of it
+-- if no token in front is hidden, the first token is visible
 pub first_visible : (ts : List Tok) → hidden_count false ts ≡ 0 → begins_hidden_group false ts ≡ false
 unfolding hidden_count hidden_count_at
 first_visible [] h = refl
 first_visible (t ∷ ts) h = bool_cases (begins_hidden_group false (t ∷ ts) ≡ false) (begins_hidden_group false (t ∷ ts)) (λ e. let k = rw e at h in cc) (λ e. e)
 
--- a literal is the next visible token
+-- whether the next visible token is a literal
 pub literal_next : (ls : List Entry) (ts : List Tok) → VisibleFrom false ls ts → begins_literal (toks ls) ≡ begins_literal ts
 literal_next [] ts h = rw h refl
 literal_next (x ∷ ls) ts h = rw h refl

@@ -1,4 +1,4 @@
--- Texts whose first bytes are the same, or both idchars.
+-- Texts whose first bytes are equal, or are both idchars.
 use Rattle.std.proofs.Common.{◌≡◌, ℕ, ◌<◌, List, [], ◌∷◌, ◌++◌, length, refl, sym, ◌∙◌, subst, arith, inl, inr}
 use Rattle.std.specs.Prelude.{Bool, true, false, not, ◌==◌, ◌⊎◌}
 use Rattle.std.proofs.lemmas.Bool.Decides.{nat_tests}
@@ -48,7 +48,7 @@ token_same behind x s z (Annotation n) h (r, k, c) = (r, ends_run s z h k, c)
 token_same behind x s z (Integer n) h (r, k, c) = (r, ends_run s z h k, c)
 token_same behind x s z (String n) h (r, k, c) = (r, ends_run s z h k, c)
 
--- a blank and a token have a first byte
+-- the bytes of a blank or a token: at least one byte
 abbrev pub Some_bytes : List ℕ → Type 0
 Some_bytes x = (b : ℕ) × (y : List ℕ) × (x ≡ b ∷ y)
 

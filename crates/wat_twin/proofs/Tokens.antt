@@ -20,12 +20,12 @@ same_length ts = length_changed (changes false false None ts) ts (all_fit false 
 
 -- NOTHING CHANGES
 
--- as many that stay as there are tokens
+-- all tokens stay
 abbrev all_kept : List Tok → List Change
 all_kept [] = []
 all_kept (t ∷ ts) = of.Keep ∷ all_kept ts
 
--- of a token behind no changed one
+-- after an unchanged token, a token stays unless it takes floats and a literal follows
 keeps : (opened followed : Bool) (t : Tok) → is_float_word opened t && followed ≡ false → change_of opened false followed t ≡ of.Keep
 keeps opened followed t h = rw h refl
 

@@ -41,7 +41,7 @@ rebuilt_here q s from ps =
     let d : from - from ≡ 0 = omega arith in
     rw (m, d) refl
 
--- the first bytes are exchanged for as many
+-- the first bytes are replaced by the same number of bytes
 pub patched : (q v y s : List ℕ) (from : ℕ) (ps : List Patch) → length q ≡ length v → StartsFrom (from + length (v ++ y)) ps → rebuilt from ((v ++ y) ++ s) (record { at = from; bytes = q } ∷ ps) ≡ (q ++ y) ++ rebuilt (from + length (v ++ y)) s ps
 patched q v y s from ps e h =
     let size : from + length v + length y ≡ from + length (v ++ y) = omega (arith, length-append v y) in
@@ -185,7 +185,7 @@ is_twin text ts (cuts, closed) =
     let same = tokens_changed cs ts f in
     (ts, us, (cuts, closed), (subst (λ n. Cuts n false (twin_text text ts) us) (sym w.size) w.cuts, rw same (closed_changed cs (tokens_of ts) f closed)), same, offsets_changed cs ts f, refl)
 
--- by any cut of the text
+-- the twin is the same for any cut of the text
 by_cut : (text answer : List ℕ) (ts us : List Placed) → IsCut text ts → IsCut text us → answer ≡ twin_text text ts → answer ≡ twin_text text us
 by_cut text answer ts us k j e = e ∙ ap (λ l. twin_text text l) (one_cut k.0 j.0)
 

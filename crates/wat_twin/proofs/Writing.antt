@@ -1,4 +1,4 @@
--- What is known of the text and of the answer while it is written.
+-- The invariant of the text and the output while the output is written.
 use Rattle.std.proofs.Common.{◌≡◌, ℕ, zero, suc, ◌+◌, ◌-◌, ◌<◌, ◌≤◌, List, [], ◌∷◌, ◌++◌, length, take, drop, get_or, refl, sym, ◌∙◌, ap, subst, arith, append_assoc, append-nil, length-append, length-drop, drop-drop, drop-cons, add-one, get_or-drop}
 use Rattle.std.specs.Prelude.{Bool, true, false, slice_range, None}
 use Rattle.std.specs.Str.{IsUtf8, IsCharBoundary}
@@ -115,7 +115,7 @@ sized behind x rest t (of.Literal m) (e, f) h k =
 
 -- THE LOOP
 
--- the tokens that are left begin at a place or behind it
+-- the remaining tokens begin at an offset or after it
 pub record Left (text : List ℕ) (from : ℕ) (ps : List Placed) : Type 0 where
   pub at : ℕ
   pub behind : Bool
@@ -150,7 +150,7 @@ at_start text all u c = record {
   same = rw (tokens_of-placed all) refl;
 }
 
--- behind the groups that are hidden
+-- the state after the hidden groups
 pub skipped : {text : List ℕ} {all : List Entry} {opened row : Bool} {done : ℕ} {out : List ℕ} (i next : ℕ) → next ≡ i + hidden_count false (toks (drop i all)) → SoFar text all (drop i all) opened row done out → SoFar text all (drop next all) opened row done out
 skipped {text} {all} {opened} {row} {done} {out} i next e so =
     let ls = drop i all in
@@ -162,7 +162,7 @@ skipped {text} {all} {opened} {row} {done} {out} i next e so =
       same = ap (λ p. out ++ rebuilt done (drop done text) p) (sym (skip_patches opened row ls)) ∙ so.same;
     })
 
--- what the token is, where it stands and what becomes of it
+-- the requirements of `put` for a change at an offset
 pub record Ready (text : List ℕ) (done at : ℕ) (c : Change) : Type 0 where
   pub order : done ≤ at
   pub ends : is_changed c ≡ true → IsCharBoundary text at

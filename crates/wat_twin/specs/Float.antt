@@ -1,8 +1,8 @@
--- What a float literal is, by its spelling. It is a sign, if there is one, and then `inf`, `nan`,
--- `nan:0x` with hex digits behind it, or a number. A number is digits, a point, if there is one,
--- with or without digits behind it, and an exponent, if there is one: `e` or `E`, a sign, if there
--- is one, and decimal digits. Or it is `0x` and the same with hex digits and `p` or `P`. Single `_`
--- are between digits only.
+-- Float literals, by their spelling. A float literal is an optional sign, and then `inf`, `nan`,
+-- `nan:0x` and hex digits, or a number. A number is digits, an optional point with or without
+-- digits after it, and an optional exponent. The exponent is `e` or `E`, an optional sign, and
+-- decimal digits. A hexadecimal number is `0x` and the same with hex digits and with `p` or `P`,
+-- but its exponent has decimal digits. Single `_` are between digits only.
 use Rattle.std.specs.Prelude.{ℕ, Bool, true, false, List, [], ◌∷◌, take, drop, ◌==◌, ◌&&◌, ◌||◌}
 use Rattle.std.specs.Prelude.{nat_lt, if◌then◌else◌, codes}
 use Rattle.std.specs.Char.{digit_value}
@@ -15,11 +15,11 @@ use Rattle.wat_twin.specs.declared.float.Place.TheVariants as at
 abbrev pub is_digit : Bool → ℕ → Bool
 is_digit hex c = if hex then nat_lt (digit_value c) 16 else nat_lt (digit_value c) 10
 
--- what begins an exponent: `p` or `P` behind hexadecimal digits, else `e` or `E`
+-- the byte that begins an exponent: `p` or `P` after hexadecimal digits, otherwise `e` or `E`
 abbrev pub is_mark : Bool → ℕ → Bool
 is_mark hex c = if hex then (c == 112) || (c == 80) else (c == 101) || (c == 69)
 
--- whether digits there are hexadecimal: those of an exponent are decimal
+-- whether digits at the place are hexadecimal; the digits of an exponent are decimal
 abbrev pub is_hex_at : Bool → Place → Bool
 is_hex_at hex at.Mark = false
 is_hex_at hex at.Sign = false
@@ -27,7 +27,7 @@ is_hex_at hex at.Exponent = false
 is_hex_at hex at.ExponentGap = false
 is_hex_at hex _ = hex
 
--- where a digit leads to
+-- the place after a digit
 abbrev pub behind_digit : Place → Place
 behind_digit at.Start = at.Whole
 behind_digit at.Whole = at.Whole
@@ -41,7 +41,7 @@ behind_digit at.Exponent = at.Exponent
 behind_digit at.ExponentGap = at.Exponent
 behind_digit at.Wrong = at.Wrong
 
--- where any other byte leads to: `_` is 95, `.` 46, `+` 43 and `-` 45
+-- the place after any other byte: `_` is 95, `.` 46, `+` 43 and `-` 45
 abbrev pub behind_other : Bool → Place → ℕ → Place
 behind_other hex at.Whole c =
     if c == 95 then at.WholeGap else (if c == 46 then at.Point
@@ -53,11 +53,11 @@ behind_other hex at.Mark c = if (c == 43) || (c == 45) then at.Sign else at.Wron
 behind_other hex at.Exponent c = if c == 95 then at.ExponentGap else at.Wrong
 behind_other hex _ c = at.Wrong
 
--- where a byte leads to
+-- the place after a byte
 abbrev pub next : Bool → Place → ℕ → Place
 next hex p c = if is_digit (is_hex_at hex p) c then behind_digit p else behind_other hex p c
 
--- a number may end there: behind a digit, or behind the point
+-- a number may end at the place: after a digit, or directly after the point
 abbrev pub is_last : Place → Bool
 is_last at.Whole = true
 is_last at.Point = true
@@ -65,12 +65,12 @@ is_last at.Fraction = true
 is_last at.Exponent = true
 is_last _ = false
 
--- behind a digit in front of the point
+-- after a digit before the point
 abbrev pub is_whole : Place → Bool
 is_whole at.Whole = true
 is_whole _ = false
 
--- where bytes lead to from a place
+-- the place after bytes
 unfoldable pub place_after : Bool → Place → List ℕ → Place
 place_after hex p [] = p
 place_after hex p (c ∷ t) = place_after hex (next hex p c) t
@@ -87,6 +87,6 @@ is_magnitude x =
     || (if begins_hex x then is_last (place_after true at.Start (drop 2 x))
     else is_last (place_after false at.Start x))))
 
--- a float of the standard: an integer is one too
+-- a float literal of the standard; integers are float literals too
 unfoldable pub is_float : List ℕ → Bool
 is_float x = is_magnitude (without_sign x)

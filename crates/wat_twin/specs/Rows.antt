@@ -1,4 +1,4 @@
--- Small tokens and their twins.
+-- Example tokens and their twins.
 use Rattle.std.specs.Prelude.{◌≡◌, [], ◌∷◌, codes, true, false}
 use Rattle.wat_lexer.specs.Token.{LParen, RParen, Keyword, Annotation, Integer, String, Reserved}
 use Rattle.wat_twin.specs.Float.{is_float}
@@ -50,7 +50,8 @@ Hidden =
     ∷ Keyword (codes "f32") ∷ Reserved (codes "1.5") ∷ RParen ∷ RParen ∷ Integer (codes "0")
     ∷ LParen ∷ Annotation (codes "b") ∷ RParen ∷ Integer (codes "0") ∷ []
 
--- `(param f32 1.5) f32.const`: the type isn't behind the `(`, and nothing is behind the last word
+-- `(param f32 1.5) f32.const`: the type isn't directly after the `(`, and nothing follows the last
+-- word
 abbrev pub Unchanged : Type 0
 Unchanged =
     twin_tokens (LParen ∷ Keyword (codes "param") ∷ Keyword (codes "f32")

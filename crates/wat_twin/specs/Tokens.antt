@@ -26,25 +26,25 @@ abbrev pub begins_literal : List Tok → Bool
 begins_literal [] = false
 begins_literal (t ∷ _) = is_literal t
 
--- a word behind which floats stand
+-- a word that float literals can follow
 unfoldable pub takes_floats : List ℕ → Bool
 takes_floats k =
     bytes_eq k (codes "f32.const") || (bytes_eq k (codes "f64.const")
     || (bytes_eq k (codes "f32x4") || bytes_eq k (codes "f64x2")))
 
--- a word behind which floats stand where it is behind a `(`
+-- a word that float literals can follow if a `(` is directly before the word
 unfoldable pub is_type : List ℕ → Bool
 is_type k = bytes_eq k (codes "f32") || bytes_eq k (codes "f64")
 
--- the keyword is such a word; the flag says that it is behind a `(`
+-- float literals can follow the keyword; the flag is true if a `(` is directly before the keyword
 abbrev pub is_float_word : Bool → Tok → Bool
 is_float_word opened (Keyword k) = takes_floats k || (opened && is_type k)
 is_float_word opened _ = false
 
 -- CHANGES
 
--- What becomes of a visible token. The flags: it is behind a `(`; it is behind a word that was
--- changed, or a literal that was; a float literal is behind it.
+-- The change of a visible token. The flags: a `(` is directly before the token; the visible token
+-- before it was changed; a float literal is the next visible token.
 abbrev pub change_of : Bool → Bool → Bool → Tok → Change
 change_of opened row followed t =
     if row && is_literal t then of.Literal (length (bytes_of t))
@@ -55,10 +55,11 @@ is_changed of.Keep = false
 is_changed of.Word = true
 is_changed (of.Literal _) = true
 
--- What becomes of tokens behind others. The flags are those of the first that is visible. `Some
--- depth` is within a hidden group, in which `depth` more groups lie open: what is in it stays, and
--- the flags too. No annotation is known, so each annotation's group is hidden. The five standard
--- ones may be known where the text is read; but by the grammar no float literal is in their groups.
+-- The changes of tokens that follow others. The flags are those of the first visible token. `Some
+-- depth` is a place within a hidden group, in which `depth` more groups are open. The tokens of the
+-- group and the flags stay. No annotation is known, so each annotation group is hidden. A reader of
+-- the text may know the five standard annotations. By the grammar no float literal is in their
+-- groups.
 unfoldable pub changes : Bool → Bool → Option ℕ → List Tok → List Change
 changes opened row place [] = []
 changes opened row None (t ∷ ts) =
@@ -68,7 +69,7 @@ changes opened row None (t ∷ ts) =
 changes opened row (Some depth) (t ∷ ts) =
     of.Keep ∷ changes opened row (if shuts t depth then None else Some (deeper t depth)) ts
 
--- what becomes of the tokens of a text
+-- the changes of the tokens of a text
 abbrev pub changes_of : List Tok → List Change
 changes_of ts = changes false false None ts
 
@@ -84,7 +85,7 @@ changed of.Keep t = t
 changed of.Word t = with_i t
 changed (of.Literal _) t = Integer (codes "0")
 
--- each token with what becomes of it
+-- the tokens after their changes
 abbrev pub all_changed : List Change → List Tok → List Tok
 all_changed (c ∷ cs) (t ∷ ts) = changed c t ∷ all_changed cs ts
 all_changed _ _ = []
@@ -92,7 +93,7 @@ all_changed _ _ = []
 abbrev pub twin_tokens : List Tok → List Tok
 twin_tokens ts = all_changed (changes_of ts) ts
 
--- of visible tokens: no float literal is behind a word behind which floats stand
+-- no float literal directly follows a word that takes floats, among visible tokens
 unfoldable pub has_none : Bool → List Tok → Bool
 has_none opened [] = true
 has_none opened (t ∷ ts) =

@@ -1,10 +1,10 @@
--- What is written of a text at a token.
+-- The bytes that are written at a token.
 use Rattle.std.specs.Prelude.{ℕ, ◌+◌, List, [], ◌∷◌, ◌++◌, slice_range}
 use Rattle.wat_twin.specs.Text.{zero_bytes}
 use Rattle.wat_twin.specs.declared.change.Change.{Change}
 use Rattle.wat_twin.specs.declared.change.Change.TheVariants as of
 
--- what is written at a token, where the text is written up to `done`, and up to where it is then
+-- the bytes that are written at a token, if the text is written up to `done`, and the new `done`
 abbrev pub written : List ℕ → ℕ → ℕ → Change → List ℕ
 written text done at of.Keep = []
 written text done at of.Word = slice_range text done at ++ 105 ∷ []
@@ -15,7 +15,7 @@ written_to done at of.Keep = done
 written_to done at of.Word = at + 1
 written_to done at (of.Literal n) = at + n
 
--- how many bytes are exchanged
+-- the number of bytes that are replaced
 abbrev pub size_of : Change → ℕ
 size_of of.Keep = 0
 size_of of.Word = 1

@@ -1,4 +1,4 @@
-//! What becomes of a token.
+//! Changes of tokens.
 
 ghost use Rattle.std.specs.Prelude.{◌≡◌, ◌<◌, Bool, drop, length};
 ghost use Rattle.std.proofs.Math.ListN.{get_or};
@@ -11,14 +11,14 @@ use crate::float::is_float;
 use wat_lexer::token::Token;
 use wat_lexer::tokens::Tokens;
 
-/// What becomes of a token.
+/// The change of a token.
 #[derive(Clone, Copy)]
 pub(crate) enum Change {
-    /// It stays.
+    /// The token stays.
     Keep,
-    /// An `i` for its first letter.
+    /// The first letter becomes `i`.
     Word,
-    /// `0` for a literal of so many bytes, and spaces behind it.
+    /// A literal of this many bytes becomes `0` and spaces.
     Literal(usize),
 }
 
@@ -34,7 +34,7 @@ fn bytes_of<'a>(token: Token<'a>) -> &'a str
     }
 }
 
-/// Whether a word is one behind which floats stand.
+/// Whether float literals can follow a word.
 #[tactic(auto, unfolding(crate::specs::Tokens::takes_floats))]
 fn takes_floats(word: &str) -> bool
     ensures { result ≡ takes_floats word.now }
@@ -42,7 +42,7 @@ fn takes_floats(word: &str) -> bool
     word == "f32.const" || word == "f64.const" || word == "f32x4" || word == "f64x2"
 }
 
-/// Whether a word is one behind which floats stand where it is behind a `(`.
+/// Whether float literals can follow a word if a `(` is directly before the word.
 #[tactic(auto, unfolding(crate::specs::Tokens::is_type))]
 fn is_type(word: &str) -> bool
     ensures { result ≡ is_type word.now }
@@ -65,15 +65,16 @@ fn is_literal(token: Token) -> bool
     is_float(bytes_of(token).as_bytes())
 }
 
-/// Whether a float literal is at a place.
+/// Whether a float literal is at index `at`.
 fn is_literal_at(tokens: &Tokens, at: usize) -> bool
     ensures { result ≡ begins_literal (toks (drop at tokens.now)) }
 {
     at < tokens.len() && is_literal(tokens.token(at))
 }
 
-/// What becomes of a visible token, where the next visible one is at another place. The flags: it
-/// is behind a `(`; it is behind a word that was changed, or a literal that was.
+/// The change of the visible token at index `at`. The next visible token is at index `next`.
+/// `opened` is true if a `(` is directly before the token. `row` is true if the visible token
+/// before it was changed.
 pub(crate) fn change_of(tokens: &Tokens, at: usize, next: usize, opened: bool, row: bool) -> Change
     requires { at < length tokens.now }
     ensures { result ≡ change_of opened row (begins_literal (toks (drop next tokens.now)))

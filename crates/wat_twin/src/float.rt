@@ -9,30 +9,30 @@ ghost use Rattle.wat_twin.specs.Float.{is_nan, is_magnitude, is_float};
 
 use wat_lexer::string::digit_value;
 
-/// Where a place lies in a number.
+/// A place within a number.
 #[derive(Clone, Copy)]
 pub(crate) enum Place {
     /// Before the first digit.
     Start,
-    /// Behind a digit in front of the point.
+    /// After a digit before the point.
     Whole,
-    /// Behind a `_` there.
+    /// After a `_` before the point.
     WholeGap,
-    /// Directly behind the point.
+    /// Directly after the point.
     Point,
-    /// Behind a digit behind the point.
+    /// After a digit of the fraction.
     Fraction,
-    /// Behind a `_` there.
+    /// After a `_` of the fraction.
     FractionGap,
-    /// Directly behind the `e` or `p`.
+    /// Directly after the `e` or `p`.
     Mark,
-    /// Behind the sign there.
+    /// After the sign of the exponent.
     Sign,
-    /// Behind a digit of the exponent.
+    /// After a digit of the exponent.
     Exponent,
-    /// Behind a `_` there.
+    /// After a `_` of the exponent.
     ExponentGap,
-    /// Where no number goes.
+    /// After bytes that begin no number.
     Wrong,
 }
 
@@ -53,7 +53,7 @@ fn is_mark(hex: bool, b: u8) -> bool
     }
 }
 
-/// Whether digits at a place are hexadecimal: those of an exponent are decimal.
+/// Whether digits at a place are hexadecimal. The digits of an exponent are decimal.
 fn is_hex_at(hex: bool, place: Place) -> bool
     ensures { result ≡ is_hex_at hex place }
 {
@@ -63,7 +63,7 @@ fn is_hex_at(hex: bool, place: Place) -> bool
     }
 }
 
-/// The place behind a digit.
+/// The place after a digit.
 fn behind_digit(place: Place) -> Place
     ensures { result ≡ behind_digit place }
 {
@@ -75,7 +75,7 @@ fn behind_digit(place: Place) -> Place
     }
 }
 
-/// The place behind a byte that is no digit.
+/// The place after a byte that isn't a digit.
 fn behind_other(hex: bool, place: Place, b: u8) -> Place
     ensures { result ≡ behind_other hex place b }
 {
@@ -90,7 +90,7 @@ fn behind_other(hex: bool, place: Place, b: u8) -> Place
     }
 }
 
-/// The place behind a byte.
+/// The place after a byte.
 fn next(hex: bool, place: Place, b: u8) -> Place
     ensures { result ≡ next hex place b }
 {
@@ -101,7 +101,7 @@ fn next(hex: bool, place: Place, b: u8) -> Place
     }
 }
 
-/// The place behind the bytes from a place on.
+/// The place after the bytes from offset `from` on.
 fn place_after(hex: bool, x: &[u8], from: usize) -> Place
     requires { from ≤ length x.now }
     ensures { result ≡ place_after hex Place.Start (drop from x.now) }
@@ -115,7 +115,7 @@ fn place_after(hex: bool, x: &[u8], from: usize) -> Place
     place
 }
 
-/// Whether a number may end there.
+/// Whether a number may end at a place.
 fn is_last(place: Place) -> bool
     ensures { result ≡ is_last place }
 {
@@ -125,7 +125,7 @@ fn is_last(place: Place) -> bool
     )
 }
 
-/// Whether it is behind a digit in front of the point.
+/// Whether a place is after a digit before the point.
 fn is_whole(place: Place) -> bool
     ensures { result ≡ is_whole place }
 {
@@ -162,7 +162,7 @@ fn is_magnitude(x: &[u8]) -> bool
     }
 }
 
-/// The bytes behind the sign, or all where there is none.
+/// The bytes after the sign, or all bytes if there is no sign.
 fn without_sign(x: &[u8]) -> &[u8]
     ensures { result.now ≡ without_sign x.now }
 {

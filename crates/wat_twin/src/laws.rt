@@ -19,8 +19,8 @@ pub fn one_twin()
     ensures size { (text answer : List ℕ) → IsTwin text answer → length answer ≡ length text }
 {}
 
-/// If no visible token of a text is a float literal after a word that floats follow, the text is its
-/// own twin, and its tokens are their own twins.
+/// If no visible float literal directly follows a word that takes floats, the text is its own twin,
+/// and its tokens are their own twins.
 pub fn own_twin()
     ensures tokens { (ts : List Tok) → has_none false (visible_tokens false ts) ≡ true
         → twin_tokens ts ≡ ts }
@@ -28,7 +28,7 @@ pub fn own_twin()
         → has_none false (visible_tokens false (tokens_of ts)) ≡ true → IsTwin text text }
 {}
 
-/// No visible token of a twin is a float literal after a word that floats follow: all are replaced.
+/// In a twin, no visible float literal directly follows a word that takes floats: all are replaced.
 pub fn all_replaced()
     ensures { (ts : List Tok) → has_none false (visible_tokens false (twin_tokens ts)) ≡ true }
 {}
@@ -45,7 +45,7 @@ pub fn same_visible()
         → visible_tokens false (twin_tokens ts) ≡ visible_tokens false (twin_tokens us) }
 {}
 
-/// Example tokens and their twins, as facts about the definitions alone.
+/// Example tokens and their twins. The clauses name only the definitions.
 pub fn twin_rows()
     ensures floats { Floats }
     ensures no_floats { NoFloats }

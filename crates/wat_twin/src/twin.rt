@@ -28,8 +28,8 @@ fn put_spaces(out: &mut String, times: usize) -> Result<(), AllocError>
     Ok(())
 }
 
-/// Writes the text up to a token, and what the token becomes, where it changes. Answers up to where
-/// the text is written.
+/// If the token at `at` changes, writes the text from `done` up to the token, and then the change.
+/// Returns the offset up to which the text is written.
 fn put(
     out: &mut String,
     text: &str,
@@ -62,7 +62,7 @@ fn put(
     }
 }
 
-/// Writes the text with what its tokens become.
+/// Writes the text with the changes of its tokens.
 fn rebuild(alloc: Global, text: &str, tokens: &Tokens) -> Result<String, AllocError>
     requires found { IsCut text.now (placed tokens.now) }
     requires skips { AreSkips tokens.now }
@@ -104,7 +104,8 @@ fn rebuild(alloc: Global, text: &str, tokens: &Tokens) -> Result<String, AllocEr
 pub fn twin(alloc: Global, text: &str) -> Result<String, Error>
     ensures twin { IfOk result (λ a. IsTwin text.now (string_bytes a)) }
     ensures size { IfOk result (λ a. length (string_bytes a) ≡ length text.now) }
-    // The text has no cut, and the fault is its first from the left.
+    // The text has no cut. The fault is its first from the left. LexAnnotation comes only without
+    // any other fault.
     ensures refused { IfErr result (λ e. IfFault e (FirstFault text.now e.fault (offset_of e.span)
         × ((ts : List Placed) → IsCut text.now ts → ⊥))) }
 {

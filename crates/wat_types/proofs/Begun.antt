@@ -1,4 +1,4 @@
--- Where no value type begins, none is read.
+-- If the next tokens begin no value type, no value type is read.
 use Rattle.std.proofs.lemmas.Bool.{or_parts}
 use Rattle.std.proofs.Common.{◌≡◌, ℕ, false, List, [], ◌∷◌, Option, Some, None, refl}
 use Rattle.std.specs.Prelude.{◌||◌, codes, is_some}

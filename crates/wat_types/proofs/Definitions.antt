@@ -1,4 +1,4 @@
--- Where a definition without `sub` isn't bare, the one with `sub` around it isn't either.
+-- If a definition without `sub` isn't bare, the definition with `sub` around it isn't bare either.
 use Rattle.std.proofs.lemmas.Bool.{and_right}
 use Rattle.std.proofs.Common.{◌≡◌, Bool, true, false, List, [], ◌∷◌, Some, None, refl, sym, ap, ◌∙◌, inl, inr}
 use Rattle.std.specs.Prelude.{ℕ, ◌&&◌, codes}

@@ -1,4 +1,4 @@
--- What the search for an exponent finds.
+-- The result of the search for an exponent.
 use Rattle.std.specs.Prelude.{◌≡◌, ◌≢◌, ℕ, ◌*◌, ◌^◌, ◌<◌, ◌≤◌, ◌==◌, None, refl}
 use Rattle.std.proofs.Common.{sym, ◌∙◌}
 use Rattle.wat_tokens.specs.Laws.Production.{by_test}

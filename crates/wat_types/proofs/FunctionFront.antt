@@ -1,4 +1,4 @@
--- Where a function type begins.
+-- The first tokens of a function type.
 use Rattle.std.specs.Prelude.{◌≡◌, Bool, List}
 use Rattle.wat_tokens.specs.Token.{Tok}
 use Rattle.wat_tokens.specs.Adding.{add_rest}

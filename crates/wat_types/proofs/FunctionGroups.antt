@@ -1,4 +1,4 @@
--- Where a group that was read left something, no function type without parameters and results is read.
+-- If a function type isn't empty after one more group, it isn't empty after all groups.
 use Rattle.std.proofs.Common.{◌≡◌, Bool, true, false, List, [], ◌∷◌, ◌++◌, Some, None, refl, sym}
 use Rattle.std.specs.Prelude.{◌&&◌}
 use Rattle.std.proofs.lemmas.List.{append-nil}

@@ -1,4 +1,4 @@
--- What is in parentheses is the last form of a group that isn't another one.
+-- A group that begins with none of the other words can only have the last form.
 use Rattle.std.specs.Prelude.{◌≡◌, ℕ, true, false, List, [], ◌∷◌, None, codes, refl}
 use Rattle.wat_tokens.specs.Production.{Production}
 use Rattle.wat_tokens.specs.Token.{Tok, LParen, Keyword}

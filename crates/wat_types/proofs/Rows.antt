@@ -1,4 +1,4 @@
--- Texts as tokens, and the types that they spell: what is read of them.
+-- Sample texts as tokens, and the types that are read from them.
 use Rattle.std.proofs.Common.{◌≡◌, List, [], ◌∷◌, ◌++◌, Some, refl}
 use Rattle.std.specs.Prelude.{codes}
 use Rattle.wat_tokens.specs.Token.{Tok, RParen, Keyword, Integer}

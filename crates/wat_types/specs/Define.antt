@@ -1,4 +1,4 @@
--- Definitions of types, and recursion groups.
+-- Type definitions, and recursion groups.
 use Rattle.std.specs.Prelude.{ℕ, Bool, true, false, ◌&&◌, List, [], codes, Option, Some, None, map}
 use Rattle.std.proofs.Common.{lit≤}
 use Rattle.wat_tokens.specs.Token.{Tok}
@@ -20,7 +20,7 @@ use Rattle.wat_types.specs.declared.define.«Type».{«Type»}
 use Rattle.wat_types.specs.FieldType.{FieldTy, field_type}
 use Rattle.wat_types.specs.StructType.{struct_type}
 
--- ---- what is defined
+-- ---- composite types
 
 -- a function type, a structure type, an array type or a continuation type
 pub data InnerKindTy : Type 0 where
@@ -35,7 +35,7 @@ inner_kind_view (code.Struct s) = struct_ (struct_view s)
 inner_kind_view (code.Array a) = array (array_view a)
 inner_kind_view (code.Cont c) = cont (index_view c.0)
 
--- no parameter, no result and no field
+-- has no parameter, no result and no field
 abbrev pub bare_inner_kind : InnerKindTy → Bool
 bare_inner_kind (func f) = bare_function f
 bare_inner_kind (struct_ ms) = no_items ms
@@ -53,7 +53,7 @@ kind =
 
 -- ---- definitions
 
--- a definition of a type, without places
+-- a type definition, without positions
 pub record DefTy : Type 0 where
   pub kind : InnerKindTy
   pub shared : Bool
@@ -75,11 +75,11 @@ def_view d =
       final_type = d.final_type;
     }
 
--- no parent, no parameter, no result and no field
+-- has no supertype, no parameter, no result and no field
 abbrev pub bare_def : DefTy → Bool
 bare_def d = no_items d.parents && bare_inner_kind d.kind
 
--- the word, an index, and then `) (`; or nothing, where the word isn't there
+-- the word, an index and `) (`; no tokens if the word isn't next
 unfoldable pub linked : List ℕ → Production (Option Idx)
 linked w = opt (begins_word w) (after_word w (made (λ v. v.0) (seq index turn)))
 
@@ -121,7 +121,7 @@ type_def =
 
 -- ---- types and recursion groups
 
--- a type, and what names it
+-- a type definition with its identifier and its name
 pub record TypeTy : Type 0 where
   pub label : Label
   pub def : DefTy

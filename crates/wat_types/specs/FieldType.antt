@@ -1,4 +1,4 @@
--- Types of fields.
+-- Field types.
 use Rattle.std.specs.Prelude.{Bool, true, false, codes}
 use Rattle.wat_tokens.specs.Tests.{begins_word, second}
 use Rattle.wat_tokens.specs.Production.{Production}
@@ -13,7 +13,7 @@ pub record FieldTy : Type 0 where
 abbrev pub field_of : Bool → StorageTy → FieldTy
 field_of m t = record { mutable = m; ty = t }
 
--- where the second token is `mut`, ( mut StorageType ); else StorageType
+-- ( mut StorageType ) if the second token is `mut`; else StorageType
 unfoldable pub field_type : Production FieldTy
 field_type =
     where_else (second (begins_word (codes "mut")))

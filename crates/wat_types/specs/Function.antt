@@ -14,7 +14,7 @@ use Rattle.wat_types.specs.declared.value.ValType.{ValType}
 use Rattle.wat_types.specs.FunctionSpells.{FunctionSpells, function_tested}
 use Rattle.wat_types.specs.Laws.FunctionSpells.{function_to, function_from}
 
--- ---- what contracts see
+-- ---- views
 
 abbrev pub param_view : Option Id × Option NameAnnotation × ValType → ParamTy
 param_view p = record { label = label_view p.0 p.1; ty = val_view p.2 }
@@ -29,7 +29,7 @@ function_view f =
 abbrev pub unnamed_view : FunctionTypeNoNames → FuncTy
 unnamed_view f = function_view f.0
 
--- no parameter and no result
+-- has no parameter and no result
 abbrev pub bare_function : FuncTy → Bool
 bare_function f = no_items f.params && no_items f.results
 
@@ -40,6 +40,6 @@ function_groups labels =
     restated (function_tested labels) (FunctionSpells labels) (function_to labels)
     (function_from labels)
 
--- parameter and result groups, of which parameters may have an identifier or a name
+-- parameter and result groups; a parameter may have an identifier or a name
 abbrev pub function_type : Production FuncTy
 function_type = function_groups true

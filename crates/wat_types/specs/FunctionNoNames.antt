@@ -7,6 +7,6 @@ use Rattle.wat_types.specs.Function.{function_groups}
 use Rattle.wat_types.specs.FunctionSpells.{UnnamedSpells}
 use Rattle.wat_types.specs.Laws.Function.{unnamed_to, unnamed_from}
 
--- parameter and result groups, of which no parameter has an identifier or a name
+-- parameter and result groups; no parameter has an identifier or a name
 abbrev pub function_type_no_names : Production FuncTy
 function_type_no_names = restated (function_groups false) UnnamedSpells unnamed_to unnamed_from

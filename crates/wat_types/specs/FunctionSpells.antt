@@ -1,4 +1,4 @@
--- What function types spell.
+-- Which tokens spell a function type.
 use Rattle.std.specs.Prelude.{◌≡◌, Bool, true, List, flat_map}
 use Rattle.wat_tokens.specs.Token.{Tok}
 use Rattle.wat_tokens.specs.Production.{Production}
@@ -9,11 +9,11 @@ use Rattle.wat_types.specs.Group.{merged, InOrder, unlabelled}
 use Rattle.wat_types.specs.Order.{in_order}
 use Rattle.wat_types.specs.Laws.Group.{func_group_consumes}
 
--- groups, to where the second token is neither `param` nor `result`
+-- groups, as long as the second token is `param` or `result`
 unfoldable pub func_groups : Bool → Production (List Group)
 func_groups labels = many group_follows (func_group labels) (func_group_consumes labels)
 
--- groups: no result group with a type stands before a param group; params and results are the
+-- groups, with no result group with a type before a param group; params and results are the
 -- concatenations in order
 abbrev pub FunctionSpells : Bool → FuncTy → List Tok → List Tok → Type 0
 FunctionSpells labels f c r =

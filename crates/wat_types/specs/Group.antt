@@ -1,4 +1,4 @@
--- The groups of a function type, and the order in which they may stand.
+-- The groups of a function type, and their order.
 use Rattle.std.specs.Prelude.{Bool, true, not, ◌&&◌, ◌||◌, List, [], ◌∷◌, codes, flat_map, AllPairs}
 use Rattle.std.specs.Prelude.{⊤}
 use Rattle.wat_tokens.specs.Token.{Tok}
@@ -11,7 +11,7 @@ use Rattle.wat_types.specs.Value.{ValTy, val_type}
 use Rattle.wat_types.specs.Label.{Label, no_label, labelled, label, begins_label}
 use Rattle.wat_types.specs.Laws.Value.{val_type_consumes}
 
--- a parameter, and what names it
+-- a parameter with its label
 pub record ParamTy : Type 0 where
   pub label : Label
   pub ty : ValTy
@@ -29,7 +29,7 @@ plain_param_only = made plain_param val_type
 unfoldable pub plain_params : Production (List ParamTy)
 plain_params = many more plain_param_only val_type_consumes
 
--- where labels may stand and one begins, id? name? ValType; else ValType*
+-- id? name? ValType if labels are allowed and a label begins; else ValType*
 unfoldable pub params : Bool → Production (List ParamTy)
 params labels =
     where_else (λ t. labels && begins_label t) (made labelled_param (seq label val_type))
@@ -54,22 +54,22 @@ func_group labels =
 abbrev pub begins_group_word : List Tok → Bool
 begins_group_word t = begins_word (codes "param") t || begins_word (codes "result") t
 
--- one more group has to follow: the second token is `param` or `result`, whatever the first is
+-- one more group has to follow: the second token is `param` or `result`, for any first token
 abbrev pub group_follows : List Tok → Bool
 group_follows t = second (begins_word (codes "param")) t || second (begins_word (codes "result")) t
 
--- what begins a function type: `(` and `param` or `result`
+-- a function type begins: `(` and `param` or `result`
 abbrev pub begins_func : List Tok → Bool
 begins_func t = begins_group (codes "param") t || begins_group (codes "result") t
 
--- none of the parameters has a label
+-- no parameter has a label
 abbrev pub unlabelled : List ParamTy → Bool
 unlabelled [] = true
 unlabelled (p ∷ ps) = not (labelled p.label) && unlabelled ps
 
--- ---- what the groups say together
+-- ---- all groups together
 
--- a function type, without places
+-- a function type, without positions
 pub record FuncTy : Type 0 where
   pub params : List ParamTy
   pub results : List ValTy
@@ -88,15 +88,15 @@ abbrev pub results_in : Group → List ValTy
 results_in (param ps) = []
 results_in (result rs) = rs
 
--- the parameters and the results of all groups, one behind the other
+-- the parameters and the results of all groups, concatenated in order
 abbrev pub merged : List Group → FuncTy
 merged gs = function_of (flat_map params_in gs) (flat_map results_in gs)
 
--- a result group with a type doesn't stand before a param group
+-- a result group with a type can't come before a param group
 abbrev pub MayStandBefore : Group → Group → Type 0
 MayStandBefore (result (t ∷ ts)) (param ps) = ⊥
 MayStandBefore _ _ = ⊤
 
--- of any two groups the earlier may stand before the later
+-- of any two groups, the earlier may come before the later
 abbrev pub InOrder : List Group → Type 0
 InOrder gs = AllPairs MayStandBefore gs

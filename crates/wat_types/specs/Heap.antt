@@ -14,7 +14,7 @@ use Rattle.wat_types.specs.declared.heap.HeapType.TheVariants as code
 
 -- ---- abstract heap types
 
--- the word of a type
+-- the keyword of an abstract heap type
 abbrev pub abstract_word : AbstractHeapType → List ℕ
 abstract_word word.Func = codes "func"
 abstract_word word.Extern = codes "extern"
@@ -31,7 +31,7 @@ abstract_word word.NoExn = codes "noexn"
 abstract_word word.NoCont = codes "nocont"
 abstract_word word.None = codes "none"
 
--- each word, and the type that it names
+-- each keyword with the type that it names
 abbrev pub abstract_words : List (List ℕ × AbstractHeapType)
 abstract_words =
     (codes "func", word.Func) ∷ (codes "extern", word.Extern) ∷ (codes "exn", word.Exn)
@@ -41,17 +41,17 @@ abstract_words =
     ∷ (codes "noextern", word.NoExtern) ∷ (codes "noexn", word.NoExn)
     ∷ (codes "nocont", word.NoCont) ∷ (codes "none", word.None) ∷ []
 
--- one of the words
+-- one of the keywords
 unfoldable pub abstract_heap_type : Production AbstractHeapType
 abstract_heap_type = one (word_in abstract_words) (refl, refl)
 
--- one of the words
+-- one of the keywords
 unfoldable pub begins_abstract : List Tok → Bool
 begins_abstract t = begins_one_of (word_in abstract_words) t
 
 -- ---- heap types
 
--- a heap type, without the places of indices
+-- a heap type, without the positions of indices
 pub data HeapTy : Type 0 where
   concrete : Idx → HeapTy
   exact : Idx → HeapTy

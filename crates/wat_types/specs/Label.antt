@@ -1,4 +1,4 @@
--- Labels: an identifier, and a name that an annotation gives.
+-- Labels: an identifier, and a name from a name annotation.
 use Rattle.std.specs.Prelude.{ℕ, Bool, ◌||◌, List, Option, None, is_some}
 use Rattle.wat_tokens.specs.Token.{Tok}
 use Rattle.wat_tokens.specs.Tests.{begins_id}
@@ -23,7 +23,7 @@ no_label = label_of None None
 abbrev pub label_view : Option Id → Option NameAnnotation → Label
 label_view i n = label_of (option_view name_of i) (option_view (λ a. a.name.now) n)
 
--- an id or a name is there
+-- has an id or a name
 abbrev pub labelled : Label → Bool
 labelled l = is_some l.id || is_some l.name
 

@@ -15,7 +15,7 @@ use Rattle.wat_types.specs.Laws.Limits.{exponent_to, exponent_from}
 
 -- ---- limits
 
--- ( i32 | i64 )?, whether `i64` is there
+-- ( i32 | i64 )?, as whether the word is `i64`
 unfoldable pub is_64 : Production Bool
 is_64 = where_else (begins_word (codes "i64")) (made (λ _. true) (word (codes "i64")))
     (made (λ _. false) (flag (codes "i32")))
@@ -23,7 +23,7 @@ is_64 = where_else (begins_word (codes "i64")) (made (λ _. true) (word (codes "
 abbrev pub limits_of : Bool × (ℕ × Option ℕ) → Limits
 limits_of v = record { is64 = v.0; min = v.1.0; max = v.1.1 }
 
--- ( i32 | i64 )? u64 u64?; the second is there where an integer of any value is
+-- ( i32 | i64 )? u64 u64?; the second number is present if the next token is any integer
 unfoldable pub limits_type : Production Limits
 limits_type = made limits_of (seq is_64 (seq (unsigned 64) (opt begins_integer (unsigned 64))))
 
@@ -37,13 +37,13 @@ page_exponent = restated exponent_tested ExponentSpells exponent_to exponent_fro
 unfoldable pub pagesize : Production ℕ
 pagesize = group (codes "pagesize") page_exponent
 
--- pagesize?, absent where what follows isn't `(` and then `pagesize`
+-- pagesize?, absent if the next two tokens aren't `(` and `pagesize`
 unfoldable pub pagesize_or_none : Production (Option ℕ)
 pagesize_or_none = opt (begins_group (codes "pagesize")) pagesize
 
 -- ---- table types
 
--- a table type, without the places of indices
+-- a table type, without the positions of indices
 pub record TableTy : Type 0 where
   pub limits : Limits
   pub elem : RefTy

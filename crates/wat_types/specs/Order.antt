@@ -1,10 +1,10 @@
--- A test of the order of groups, and groups that are added one by one.
+-- A test of the order of groups, and the addition of groups one by one.
 use Rattle.std.specs.Prelude.{Bool, true, false, if◌then◌else◌, List, [], ◌∷◌, ◌++◌, Option, Some}
 use Rattle.std.specs.Prelude.{None}
 use Rattle.wat_tokens.specs.Views.{no_items}
 use Rattle.wat_types.specs.Group.{Group, param, result, FuncTy, function_of}
 
--- no param group
+-- no group is a param group
 abbrev pub only_results : List Group → Bool
 only_results [] = true
 only_results (param ps ∷ gs) = false
@@ -18,7 +18,7 @@ in_order (result (t ∷ ts) ∷ gs) = only_results gs
 
 -- ---- groups added one by one
 
--- one group more; none of params where there are results
+-- adds one more group; None for a param group if there are results
 abbrev pub add : FuncTy → Group → Option FuncTy
 add f (param ps) =
     if no_items f.results then Some (function_of (f.params ++ ps) f.results) else None

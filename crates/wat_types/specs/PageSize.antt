@@ -1,4 +1,4 @@
--- What the exponent of a page size spells.
+-- Which tokens spell the exponent of a page size.
 use Rattle.std.specs.Prelude.{ℕ, Bool, List, is_some, unwrap_or}
 use Rattle.wat_tokens.specs.Token.{Tok}
 use Rattle.wat_tokens.specs.Production.{Production}

@@ -8,7 +8,7 @@ use Rattle.wat_types.specs.declared.define.Rec.{Rec}
 use Rattle.wat_types.specs.Define.{TypeTy, begins_type, grouped_type, types_view}
 use Rattle.wat_types.specs.Laws.Define.{grouped_type_consumes}
 
--- ( Type )*, to where the second token isn't `type`
+-- ( Type )*, as long as the second token is `type`
 unfoldable pub types : Production (List TypeTy)
 types = many (second begins_type) grouped_type grouped_type_consumes
 

@@ -15,7 +15,7 @@ use Rattle.wat_types.specs.declared.heap.HeapType.TheVariants as code
 use Rattle.wat_types.specs.declared.reference.RefType.{RefType}
 use Rattle.wat_types.specs.declared.reference.Shorthand.{Shorthand}
 
--- a reference type, without the places of indices
+-- a reference type, without the positions of indices
 pub record RefTy : Type 0 where
   pub nullable : Bool
   pub heap : HeapTy
@@ -26,7 +26,7 @@ ref_view t = record { nullable = t.nullable; heap = heap_view t.heap }
 abbrev pub shorthand_for : AbstractHeapType → Shorthand
 shorthand_for t = record { 0 = t }
 
--- each shorthand, for the heap type that it names
+-- each shorthand with the heap type that it names
 abbrev pub shorthand_words : List (List ℕ × Shorthand)
 shorthand_words =
     (codes "funcref", shorthand_for word.Func) ∷ (codes "externref", shorthand_for word.Extern)
@@ -47,7 +47,7 @@ shorthand = made (λ s. s.0) (one (word_in shorthand_words) (refl, refl))
 unfoldable pub begins_shorthand : List Tok → Bool
 begins_shorthand t = begins_one_of (word_in shorthand_words) t
 
--- what a shorthand of the heap type is, shared or not
+-- the reference type of a shorthand for the heap type, shared or not
 abbrev pub short : Bool → AbstractHeapType → RefTy
 short shared t = record { nullable = true; heap = abstract_ shared t }
 
@@ -69,19 +69,19 @@ begins_long_ref t = begins_group (codes "ref") t || begins_group (codes "shared"
 abbrev pub begins_ref : List Tok → Bool
 begins_ref t = begins_shorthand t || begins_long_ref t
 
--- ---- types made without a text
+-- ---- types that are not read from a text
 
--- what a shorthand of the heap type stands for: nullable, not shared
+-- the reference type of a shorthand for the heap type: nullable, not shared
 abbrev pub nullable_ref : AbstractHeapType → RefType
 nullable_ref t = record { nullable = true; heap = code.Abstract false t }
 
--- the heap type, shared, where it is abstract
+-- the heap type made shared, if it is abstract
 abbrev pub shared_heap : HeapType → Option HeapType
 shared_heap (code.Abstract shared t) = Some (code.Abstract true t)
 shared_heap (code.Concrete i) = None
 shared_heap (code.Exact i) = None
 
--- the reference to the heap type, where there is one
+-- the reference to the heap type, if a heap type is given
 abbrev pub ref_to : Bool → Option HeapType → Option RefType
 ref_to nullable (Some h) = Some (record { nullable = nullable; heap = h })
 ref_to nullable None = None

@@ -1,4 +1,4 @@
--- Texts as tokens, and the types that they spell.
+-- Sample texts as tokens, and the types that they spell.
 use Rattle.std.specs.Prelude.{true, false, List, [], ◌∷◌, ◌++◌, codes, Some, None}
 use Rattle.wat_tokens.specs.Token.{Tok, Keyword, Id, Integer}
 use Rattle.wat_tokens.specs.Index.{number, name}
@@ -60,7 +60,7 @@ FinalSub =
       final_type = Some true;
     })
 
--- `sub (cont 2)` isn't final; `array (mut i8)` says nothing of it
+-- `sub (cont 2)`: not final; `array (mut i8)`: no `sub`, so `final_type` is None
 abbrev pub OpenSub : Type 0
 OpenSub =
     Spelled type_def (Keyword (codes "sub")

@@ -12,7 +12,7 @@ use Rattle.wat_types.specs.declared.storage.GlobalType.{GlobalType}
 
 -- ---- storage types
 
--- a storage type, without the places of indices
+-- a storage type, without the positions of indices
 pub data StorageTy : Type 0 where
   i8 : StorageTy
   i16 : StorageTy
@@ -32,7 +32,7 @@ storage_type =
 
 -- ---- global types
 
--- a global type, without the places of indices
+-- a global type, without the positions of indices
 pub record GlobalTy : Type 0 where
   pub ty : ValTy
   pub mutable : Bool
@@ -41,7 +41,7 @@ pub record GlobalTy : Type 0 where
 abbrev pub global_type_view : GlobalType → GlobalTy
 global_type_view t = record { ty = val_view t.ty; mutable = t.mutable; shared = t.shared }
 
--- the second token is `shared` or `mut`, whatever the first is
+-- the second token is `shared` or `mut`, for any first token
 abbrev pub long_global : List Tok → Bool
 long_global t = second (begins_word (codes "shared")) t || second (begins_word (codes "mut")) t
 
@@ -52,7 +52,7 @@ global_type_of v = record { shared = v.0; mutable = v.1.0; ty = v.1.1 }
 abbrev pub plain_global : ValTy → GlobalTy
 plain_global t = record { ty = t; mutable = false; shared = false }
 
--- where the second token is `shared` or `mut`, ( shared? mut? ValType ); else ValType
+-- ( shared? mut? ValType ) if the second token is `shared` or `mut`; else ValType
 unfoldable pub global_type : Production GlobalTy
 global_type =
     where_else long_global (made global_type_of

@@ -20,7 +20,7 @@ array_view a = field_of a.mutable (storage_view a.ty)
 
 -- ---- the fields of a structure
 
--- a field, and what names it
+-- a field with its label
 pub record MemberTy : Type 0 where
   pub label : Label
   pub field : FieldTy
@@ -47,7 +47,7 @@ plain_member = made (member_of no_label) field_type
 unfoldable pub plain_members : Production (List MemberTy)
 plain_members = many more plain_member field_type_consumes
 
--- where a label begins, id? name? StructField; else StructField*
+-- id? name? StructField if a label begins; else StructField*
 unfoldable pub members : Production (List MemberTy)
 members = where_else begins_label (made labelled_member (seq label field_type)) plain_members
 

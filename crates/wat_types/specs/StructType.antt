@@ -6,6 +6,6 @@ use Rattle.wat_tokens.specs.Joined.{joined}
 use Rattle.wat_types.specs.Struct.{MemberTy, member_group}
 use Rattle.wat_types.specs.Laws.Struct.{member_group_consumes}
 
--- groups, to the end: the fields of all, one behind the other
+-- groups up to the end of the enclosing group: the fields of all groups, in order
 unfoldable pub struct_type : Production (List MemberTy)
 struct_type = joined more member_group member_group_consumes

@@ -1,4 +1,4 @@
--- Types of tags.
+-- Tag types.
 use Rattle.wat_tokens.specs.Production.{Production}
 use Rattle.wat_types.specs.Function.{function_view, function_type}
 use Rattle.wat_types.specs.Group.{FuncTy, begins_func}
@@ -6,7 +6,7 @@ use Rattle.wat_types.specs.Use.{UseTy, use_view, type_use, SameFunction, SameUse
 use Rattle.wat_types.specs.declared.tag.TagType.{TagType}
 use Rattle.wat_types.specs.declared.tag.TagType.TheVariants as code
 
--- the use of a function type that it is
+-- the type use in a tag type
 abbrev pub tag_type_view : TagType → UseTy FuncTy
 tag_type_view (code.Exception u) = use_view function_view u
 

@@ -1,4 +1,4 @@
--- Type uses: a type by its index, written in line, or both.
+-- Type uses: an index, an inline type, both or neither.
 use Rattle.std.specs.Prelude.{◌≡◌, Bool, List, codes, Option, Some, None, option_map, ⊤}
 use Rattle.wat_tokens.specs.Token.{Tok}
 use Rattle.wat_tokens.specs.Tests.{begins_word, second}
@@ -11,7 +11,7 @@ use Rattle.wat_types.specs.declared.function.FunctionType.{FunctionType}
 use Rattle.wat_types.specs.declared.function.FunctionTypeNoNames.{FunctionTypeNoNames}
 use Rattle.wat_types.specs.declared.type_use.TypeUse.{TypeUse}
 
--- a type use, without the place of the index
+-- a type use, without the position of the index
 pub record UseTy (A : Type 0) : Type 0 where
   pub index : Option Idx
   pub inline : Option A
@@ -19,17 +19,17 @@ pub record UseTy (A : Type 0) : Type 0 where
 abbrev pub use_of : {A : Type 0} → Option Idx → Option A → UseTy A
 use_of i t = record { index = i; inline = t }
 
--- its inline type seen by view
+-- a type use with the given view of its inline type
 abbrev pub use_view : {T A : Type 0} → (T → A) → TypeUse T → UseTy A
 use_view view u = use_of (option_view index_view u.index) (option_view view u.inline)
 
--- there is no inline type, or a bare one
+-- has no inline type, or a bare inline type
 abbrev pub bare_use : {A : Type 0} → (A → Bool) → UseTy A → Bool
 bare_use bare u = bare_option bare u.inline
 
 -- ---- the grammar
 
--- the second token is `type`, whatever the first is
+-- the second token is `type`, for any first token
 abbrev pub type_follows : List Tok → Bool
 type_follows t = second (begins_word (codes "type")) t
 
@@ -37,13 +37,13 @@ type_follows t = second (begins_word (codes "type")) t
 abbrev pub type_index : Production Idx
 type_index = group (codes "type") index
 
--- ( type idx )?, there where a type has to follow; then T?, there where one begins
+-- ( type idx )?, present if the second token is `type`; then T?, present if a T begins
 unfoldable pub type_use : {A : Type 0} → (List Tok → Bool) → Production A → Production (UseTy A)
 type_use begins t = made (λ v. use_of v.0 v.1) (seq (opt type_follows type_index) (opt begins t))
 
 -- ---- other uses of the same type
 
--- the same index; of the inline type, the function type in it
+-- the same index, and the function type in the inline type
 abbrev pub with_names : TypeUse FunctionTypeNoNames → TypeUse FunctionType
 with_names u = record { index = u.index; inline = option_map (λ t. t.0) u.inline }
 
@@ -54,7 +54,7 @@ SameFunction f g = (f.params.items ≡ g.params.items) × (f.results.items ≡ g
 abbrev pub SameUnnamed : FunctionTypeNoNames → FunctionTypeNoNames → Type 0
 SameUnnamed f g = SameFunction f.0 g.0
 
--- both are there and the same, or neither is
+-- both are present and the same, or both are absent
 abbrev pub SameOption : {T : Type 0} → (T → T → Type 0) → Option T → Option T → Type 0
 SameOption Same (Some x) (Some y) = Same x y
 SameOption Same None None = ⊤

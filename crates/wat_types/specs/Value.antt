@@ -9,7 +9,7 @@ use Rattle.wat_types.specs.Reference.{RefTy, ref_view, ref_type, begins_shorthan
 use Rattle.wat_types.specs.declared.value.ValType.{ValType}
 use Rattle.wat_types.specs.declared.value.ValType.TheVariants as code
 
--- a value type, without the places of indices
+-- a value type, without the positions of indices
 pub data ValTy : Type 0 where
   i32 : ValTy
   i64 : ValTy
@@ -26,19 +26,19 @@ val_view code.F64 = f64
 val_view code.V128 = v128
 val_view (code.Ref r) = ref (ref_view r)
 
--- the types of numbers and vectors
+-- the number and vector types, by keyword
 abbrev pub plain_words : List (List ℕ × ValTy)
 plain_words =
     (codes "i32", i32) ∷ (codes "i64", i64) ∷ (codes "f32", f32) ∷ (codes "f64", f64)
     ∷ (codes "v128", v128) ∷ []
 
--- one of five words, or a RefType
+-- one of the five words, or a RefType
 unfoldable pub val_type : Production ValTy
 val_type =
     where_else (begins_one_of (word_in plain_words)) (one (word_in plain_words) (refl, refl))
     (made ref ref_type)
 
--- the type that the word names, where it is one of the five
+-- the type that the word names, if it is one of the five words
 abbrev pub IsPlain : List ℕ → Option ValType → Type 0
 IsPlain w (Some t) = look_up plain_words w ≡ Some (val_view t)
 IsPlain w None = look_up plain_words w ≡ None

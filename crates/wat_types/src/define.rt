@@ -49,9 +49,9 @@ pub struct TypeDef<'a> {
     pub shared: bool,
     /// The supertypes, in the order of the text.
     pub parents: Vec<Index<'a>>,
-    /// The index in `( descriptor idx )`: the type that describes this one.
+    /// The index in `( descriptor idx )`: the type that describes this type.
     pub descriptor: Option<Index<'a>>,
-    /// The index in `( describes idx )`: the type that this one describes.
+    /// The index in `( describes idx )`: the type that this type describes.
     pub describes: Option<Index<'a>>,
     /// Whether the text has `final` after `sub`; None without `sub`.
     pub final_type: Option<bool>,
@@ -94,8 +94,8 @@ impl<'a> Parse<'a> for ContType<'a> {
 }
 
 /// Reads `func` and a [`FunctionType`], `struct` and a [`StructType`], `array` and an
-/// [`ArrayType`], or `cont` and a [`ContType`]. Before any other token it returns the error
-/// Unexpected, at the token.
+/// [`ArrayType`], or `cont` and a [`ContType`]. Returns Unexpected, at the next token, if the token
+/// is any other.
 impl<'a> Parse<'a> for InnerTypeKind<'a> {
     ghost View = { InnerKindTy };
 
@@ -118,7 +118,7 @@ impl<'a> Parse<'a> for InnerTypeKind<'a> {
     }
 }
 
-/// The index after the keyword, if the keyword is next, and then `) (`.
+/// Reads a keyword, an index and `) (`, if the keyword is next, and returns the index.
 #[tactic(auto, unfolding(crate::specs::Define::linked))]
 fn read_link<'a>(parser: &mut Parser<'a>, word: &str) -> Result<Option<Index<'a>>>
     ensures reads { Reads (plain (option_view index_view)) (linked word.now) result parser.old
@@ -269,8 +269,8 @@ impl<'a> Part<'a, Type<'a>> for GroupedType {
     }
 }
 
-/// Reads `rec`, and then `( Type )` as long as the second token is `type`. Before that second
-/// token, any other token than `(` is the error Unexpected, at the token.
+/// Reads `rec`, and then `( Type )` as long as the second token is `type`. Returns Unexpected, at
+/// the first token, if the second token is `type` and the first isn't `(`.
 impl<'a> Parse<'a> for Rec<'a> {
     ghost View = { List TypeTy };
 

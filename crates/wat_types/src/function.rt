@@ -61,7 +61,8 @@ impl<'a> Part<'a, (Option<Id<'a>>, Option<NameAnnotation<'a>>, ValType<'a>)> for
     }
 }
 
-/// Appends the parameters of a group to `out`; `labels` says whether a parameter may have a label.
+/// Appends the parameters of a group to `out`. A parameter may have a label only if `labels` is
+/// true.
 #[tactic(auto, using(crate::specs::Laws::Value::val_type_consumes), unfolding(crate::specs::Group::params, crate::specs::Group::plain_params))]
 fn read_params<'a>(
     parser: &mut Parser<'a>,
@@ -110,7 +111,7 @@ fn read_result_group<'a>(parser: &mut Parser<'a>, out: &mut FunctionType<'a>) ->
 {
     parser.open()?;
     parser.keyword("result")?;
-    // (what is given back before the next list is made leaves no hole in front of it)
+    // (memory given back before the next list is allocated leaves no hole before that list)
     out.params.shrink_to_fit();
     rest_of_group::<ValType>(parser, &mut out.results)?;
     parser.close()?;
@@ -131,7 +132,7 @@ fn read_group<'a>(parser: &mut Parser<'a>, labels: bool, out: &mut FunctionType<
     }
 }
 
-/// Whether the keyword at the cursor is `param` or `result`.
+/// Returns whether the next token is the keyword `param` or `result`.
 fn group_word_at(cursor: Cursor<'_>) -> bool
     ensures { result ≡ begins_group_word (in_front cursor.entry) }
 {
@@ -141,7 +142,7 @@ fn group_word_at(cursor: Cursor<'_>) -> bool
     }
 }
 
-/// Whether the second token is `param` or `result`, whatever the first is.
+/// Returns whether the second token is `param` or `result`, for any first token.
 fn group_next(parser: &Parser<'_>) -> bool
     ensures { result ≡ group_follows parser.now.left }
 {
@@ -151,7 +152,7 @@ fn group_next(parser: &Parser<'_>) -> bool
     }
 }
 
-/// Groups, as long as one has to follow.
+/// Reads groups as long as one more has to follow.
 fn read_groups<'a>(parser: &mut Parser<'a>, labels: bool) -> Result<FunctionType<'a>>
     ensures reads { Reads (owning function_view bare_function) (function_groups labels) result
         parser.old parser.new }
@@ -194,9 +195,9 @@ impl<'a> FunctionType<'a> {
 /// Reads groups as long as the second token is `param` or `result`: `( param id? name? ValType )`
 /// with an identifier or a name annotation, `( param ValType* )` and `( result ValType* )`.
 ///
-/// A param group after a result group with a type is the error ParamAfterResult, at the keyword
-/// `param`. Any other token than `(` before `param` or `result` is the error Unexpected, at the
-/// token.
+/// Returns ParamAfterResult, at the keyword `param`, for a param group after a result group with a
+/// type. Returns Unexpected, at the first token, if the second token is `param` or `result` and the
+/// first isn't `(`.
 impl<'a> Parse<'a> for FunctionType<'a> {
     ghost View = { FuncTy };
 
@@ -209,7 +210,7 @@ impl<'a> Parse<'a> for FunctionType<'a> {
     }
 }
 
-/// A [`FunctionType`] begins at `( param` or `( result`. An empty one takes no token.
+/// A [`FunctionType`] begins at `( param` or `( result`. An empty function type takes no token.
 impl<'p> Peek for FunctionType<'p> {
     ghost begins = { begins_func };
 
@@ -247,8 +248,8 @@ impl<'a> FunctionTypeNoNames<'a> {
     }
 }
 
-/// Reads what a [`FunctionType`] reads, without labels: an identifier or a name annotation is the
-/// error Unexpected.
+/// Reads the same as a [`FunctionType`], without labels. Returns Unexpected at an identifier or a
+/// name annotation.
 impl<'a> Parse<'a> for FunctionTypeNoNames<'a> {
     ghost View = { FuncTy };
 
@@ -261,7 +262,7 @@ impl<'a> Parse<'a> for FunctionTypeNoNames<'a> {
     }
 }
 
-/// A [`FunctionTypeNoNames`] begins where a [`FunctionType`] does.
+/// A [`FunctionTypeNoNames`] begins at `( param` or `( result`, as a [`FunctionType`] does.
 impl<'p> Peek for FunctionTypeNoNames<'p> {
     ghost begins = { begins_func };
 

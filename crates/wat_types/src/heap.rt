@@ -110,8 +110,8 @@ impl NamedByKeyword for AbstractHeapType {
     }
 }
 
-/// Reads the keyword of an abstract heap type. Any other token is the error Unexpected, at the
-/// token.
+/// Reads the keyword of an abstract heap type. Returns Unexpected, at the next token, if the token
+/// is any other.
 impl<'a> Parse<'a> for AbstractHeapType {
     ghost use Rattle.wat_types.specs.declared.heap.AbstractHeapType.{AbstractHeapType};
     ghost use Rattle.wat_types.specs.Heap.{abstract_heap_type};
@@ -142,7 +142,7 @@ impl Peek for AbstractHeapType {
     }
 }
 
-/// Reads an index, `( exact idx )`, an [`AbstractHeapType`], or one in `( shared .. )`.
+/// Reads an index, `( exact idx )`, an [`AbstractHeapType`], or `( shared AbstractHeapType )`.
 impl<'a> Parse<'a> for HeapType<'a> {
     ghost View = { HeapTy };
 
@@ -171,8 +171,8 @@ impl<'a> Parse<'a> for HeapType<'a> {
     }
 }
 
-/// True at an [`AbstractHeapType`], at `( shared` and at `( type`. An index or `( exact` begins a
-/// [`HeapType`] too, but gives false.
+/// True at an [`AbstractHeapType`], at `( shared` and at `( type`. False at an index and at
+/// `( exact`, though these begin a [`HeapType`] too.
 impl<'p> Peek for HeapType<'p> {
     ghost begins = { begins_heap };
 

@@ -1,11 +1,11 @@
-//! Texts that spell types, as contracts. The functions here do nothing: they are public for their
-//! contracts alone.
+//! Sample texts that spell types, as contracts. The functions do nothing: only their contracts
+//! matter.
 
 ghost use Rattle.wat_types.specs.Rows.{PageSizes, Globals, LongLimits, FinalSub, OpenSub};
 ghost use Rattle.wat_types.specs.Rows.{Structure, Described, Uses};
 
-/// Sample texts and the types that they spell. The facts are about the definitions alone, so they
-/// show an error that a parser shares with its definition. The function does nothing.
+/// Sample texts and the types that they spell. The facts use only the definitions, so they can
+/// reveal an error that a parser shares with its definition. The function does nothing.
 pub fn rows()
     ensures page_sizes { PageSizes }
     ensures globals { Globals }

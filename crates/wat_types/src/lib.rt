@@ -1,7 +1,7 @@
 //! Types of the WebAssembly text format (WebAssembly Core Specification, Text Format, "Types").
 //!
-//! Each type is read from tokens by [`wat_tokens::Parse`]. [`wat_tokens::Peek`] tests whether one
-//! is next. Indices aren't resolved.
+//! [`wat_tokens::Parse`] reads each type from tokens. [`wat_tokens::Peek`] tests whether the next
+//! tokens begin a type. Indices aren't resolved.
 #![tactic(auto)]
 
 pub mod define;

@@ -40,12 +40,12 @@ pub struct MemoryType {
     pub limits: Limits,
     /// Whether the text has `shared`: threads share the memory.
     pub shared: bool,
-    /// The page size, as the exponent k of 2^k bytes, if the text gives one.
+    /// The page size, as the exponent k of 2^k bytes, if the text has a page size.
     pub page_size_log2: Option<u32>,
 }
 
-/// Reads an optional `i64` or `i32`, and returns whether it is `i64` (WebAssembly Core
-/// Specification, Text Format, Types, "Limits").
+/// Reads an optional `i64` or `i32`, and returns true for `i64` (WebAssembly Core Specification,
+/// Text Format, Types, "Limits").
 #[tactic(auto, unfolding(crate::specs::Limits::is_64))]
 pub fn take_is64<'a>(parser: &mut Parser<'a>) -> Result<bool>
     ensures reads { Reads (plain (λ b. b)) is_64 result parser.old parser.new }
@@ -57,8 +57,8 @@ pub fn take_is64<'a>(parser: &mut Parser<'a>) -> Result<bool>
     Ok(false)
 }
 
-/// Reads an optional `i32` or `i64`, and one or two numbers. A number with a `-`, or one that needs
-/// more than 64 bits, is the error Range, at the number.
+/// Reads an optional `i32` or `i64`, and one or two numbers. Returns Range, at the number, if a
+/// number has a `-` or needs more than 64 bits.
 impl<'a> Parse<'a> for Limits {
     ghost use Rattle.wat_types.specs.declared.limits.Limits.{Limits};
     ghost use Rattle.wat_types.specs.Limits.{limits_type};
@@ -82,7 +82,7 @@ impl<'a> Parse<'a> for Limits {
     }
 }
 
-/// The exponent k of the number 2^k.
+/// Returns the exponent k of the number 2^k.
 #[tactic(auto, using(crate::proofs::ExponentFound::exponent_of_none))]
 fn exponent(number: u32) -> Option<u32>
     ensures { result ≡ exponent number }
@@ -94,8 +94,8 @@ fn exponent(number: u32) -> Option<u32>
     if 2u32.pow(k) == number { Some(k) } else { None }
 }
 
-/// Reads a 32-bit power of two, and returns its exponent. Any other number is the error PageSize,
-/// at the number.
+/// Reads a 32-bit power of two, and returns its exponent. Returns PageSize, at the number, if the
+/// number isn't a power of two.
 #[tactic(auto, unfolding(crate::specs::Limits::page_exponent))]
 fn take_exponent<'a>(parser: &mut Parser<'a>) -> Result<u32>
     ensures reads { Reads (plain (λ k. k)) page_exponent result parser.old parser.new }
@@ -109,10 +109,10 @@ fn take_exponent<'a>(parser: &mut Parser<'a>) -> Result<u32>
 
 /// Reads `( pagesize number )` if `( pagesize` is next, and returns the exponent k of the number
 /// 2^k (WebAssembly Core Specification, Text Format, Types, "Memory Types", with the proposal
-/// "Custom Page Sizes"). Otherwise it reads nothing and returns None.
+/// "Custom Page Sizes"). Otherwise takes no token and returns None.
 ///
-/// A number that isn't a power of two is the error PageSize, at the number. A number with a `-`, or
-/// one that needs more than 32 bits, is the error Range, at the number.
+/// Returns PageSize, at the number, if the number isn't a power of two. Returns Range, at the
+/// number, if the number has a `-` or needs more than 32 bits.
 #[tactic(auto, unfolding(crate::specs::Limits::pagesize_or_none, crate::specs::Limits::pagesize))]
 pub fn page_size<'a>(parser: &mut Parser<'a>) -> Result<Option<u32>>
     ensures reads { Reads (plain (λ k. k)) pagesize_or_none result parser.old parser.new }

@@ -21,11 +21,11 @@ pub struct RefType<'a> {
     pub heap: HeapType<'a>,
 }
 
-/// A shorthand, by the heap type that it names.
+/// A shorthand, as the heap type that it names.
 #[derive(Clone, Copy)]
 struct Shorthand(AbstractHeapType);
 
-/// The shorthand that a keyword is (Text Format, Types, "Reference Types", "Abbreviations").
+/// The shorthands by keyword (Text Format, Types, "Reference Types", "Abbreviations").
 impl NamedByKeyword for Shorthand {
     ghost words = { shorthand_words };
 
@@ -66,7 +66,7 @@ impl<'a> Parse<'a> for Shorthand {
     }
 }
 
-/// What `(ref ..)` holds: `null? HeapType`.
+/// The content of `(ref ..)`: `null? HeapType`.
 #[derive(Drop)]
 struct LongRef<'a> {
     nullable: bool,
@@ -91,7 +91,7 @@ impl<'a> Parse<'a> for LongRef<'a> {
     }
 }
 
-/// Whether a shorthand is next.
+/// Returns whether the next token is a shorthand.
 #[tactic(auto, unfolding(crate::specs::Reference::begins_shorthand))]
 pub(crate) fn shorthand_at(cursor: Cursor<'_>) -> bool
     ensures { result ≡ begins_shorthand (in_front cursor.entry) }
@@ -99,7 +99,7 @@ pub(crate) fn shorthand_at(cursor: Cursor<'_>) -> bool
     begins_named::<Shorthand>(cursor)
 }
 
-/// Whether a reference type in parentheses is next.
+/// Returns whether the next tokens are `( ref` or `( shared`.
 pub(crate) fn long_ref_at(cursor: Cursor<'_>) -> bool
     ensures { result ≡ begins_long_ref (in_front cursor.entry) }
 {
@@ -107,7 +107,7 @@ pub(crate) fn long_ref_at(cursor: Cursor<'_>) -> bool
 }
 
 impl<'a> RefType<'a> {
-    /// A reference to an abstract heap type, nullable and not shared.
+    /// Returns the reference to an abstract heap type, nullable and not shared.
     fn nullable(ty: AbstractHeapType) -> RefType<'a>
         ensures { result ≡ nullable_ref ty }
     {
@@ -215,7 +215,7 @@ impl<'a> RefType<'a> {
         RefType::nullable(AbstractHeapType::NoCont)
     }
 
-    /// Returns the type with the shared heap type, or None if the heap type isn't abstract.
+    /// Returns the type with its heap type made shared, or None if the heap type isn't abstract.
     pub fn shared(self) -> Option<RefType<'a>>
         ensures { result ≡ shared_ref self.entry }
     {
@@ -228,8 +228,8 @@ impl<'a> RefType<'a> {
         }
     }
 
-    /// A law of [`shared`](RefType::shared): making a shared type shared changes nothing. The
-    /// function does nothing: it is public for its contract alone.
+    /// A law of [`shared`](RefType::shared): to make a shared type shared changes nothing. The
+    /// function does nothing: only its contract matters.
     pub fn shared_again()
         ensures { (t : RefType) → IfSome (shared_ref t) (λ s. shared_ref s ≡ Some s) }
     {}

@@ -31,7 +31,8 @@ pub struct GlobalType<'a> {
     pub shared: bool,
 }
 
-/// Reads `i8`, `i16`, or a [`ValType`]. Any other token is the error Unexpected, at the token.
+/// Reads `i8`, `i16`, or a [`ValType`]. Returns Unexpected, at the next token, if the token begins
+/// no such type.
 impl<'a> Parse<'a> for StorageType<'a> {
     ghost View = { StorageTy };
 
@@ -54,7 +55,7 @@ impl<'a> Parse<'a> for StorageType<'a> {
     }
 }
 
-/// Whether the second token is `shared` or `mut`, whatever the first is.
+/// Returns whether the second token is `shared` or `mut`, for any first token.
 fn long_global_next(parser: &Parser<'_>) -> bool
     ensures { result ≡ long_global parser.now.left }
 {

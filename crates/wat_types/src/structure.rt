@@ -116,7 +116,7 @@ fn read_fields<'a>(parser: &mut Parser<'a>, out: &mut Vec<StructField<'a>>) -> R
     parts::<_, PlainField>(parser, out)
 }
 
-/// Groups of fields, up to the end of the group that they are in.
+/// Groups of fields, up to the end of the enclosing group.
 struct FieldGroup;
 
 impl<'a> Group<'a, StructField<'a>> for FieldGroup {

@@ -1,4 +1,4 @@
-//! Types of tags.
+//! Tag types.
 
 ghost use Rattle.std.specs.Prelude.{◌≡◌};
 ghost use Rattle.wat_tokens.specs.Copies.{Copies};

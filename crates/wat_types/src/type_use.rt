@@ -34,8 +34,8 @@ impl<'a, T> TypeUse<'a, T> {
     }
 }
 
-/// Reads `( type idx )` if the second token is `type`, and then a T if a T begins next. Any other
-/// token than `(` before `type` is the error Unexpected, at the token.
+/// Reads `( type idx )` if the second token is `type`, and then a T if the next tokens begin a T.
+/// Returns Unexpected, at the first token, if the second token is `type` and the first isn't `(`.
 impl<'a, T: Parse<'a> + Peek> Parse<'a> for TypeUse<'a, T> {
     ghost View = { UseTy T.View };
 

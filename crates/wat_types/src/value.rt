@@ -65,7 +65,7 @@ impl<'a> Parse<'a> for ValType<'a> {
     }
 }
 
-/// Whether the keyword of a number or vector type is next.
+/// Returns whether the next token is the keyword of a number or vector type.
 #[tactic(auto, using(wat_tokens::specs::Laws::Begin::table_begins), unfolding(crate::specs::Value::begins_plain))]
 fn plain_at(cursor: Cursor<'_>) -> bool
     ensures { result ≡ begins_plain (in_front cursor.entry) }
@@ -76,7 +76,7 @@ fn plain_at(cursor: Cursor<'_>) -> bool
     }
 }
 
-/// A [`ValType`] begins at `i32`, `i64`, `f32`, `f64` or `v128`, and where a [`RefType`] begins.
+/// A [`ValType`] begins at `i32`, `i64`, `f32`, `f64`, `v128`, or at a [`RefType`].
 impl<'p> Peek for ValType<'p> {
     ghost begins = { begins_val };
 

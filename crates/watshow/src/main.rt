@@ -1,4 +1,5 @@
-//! The program `watshow MODE`: reads standard input and lists on standard output what it spells.
+//! The program `watshow MODE`: reads a text from standard input, and lists its value on standard
+//! output.
 #![tactic(auto)]
 
 use std::io::Write;
@@ -7,10 +8,10 @@ use std::rt::Env;
 use std::{env, io};
 use wat_show::{Mode, RunError, Watched, run};
 
-/// What is said of arguments that name no mode.
+/// The message for arguments that name no mode.
 const USAGE: &str = "usage: watshow functype|expr|folded|module";
 
-/// The mode that the one argument names.
+/// The mode that the only argument names, or None for other arguments.
 fn mode_of_arguments(rt: &(impl Env + Alloc)) -> io::Result<Option<Mode>> {
     let mut words = env::args(rt)?.skip(1);
     let word = match words.next() {
@@ -23,13 +24,13 @@ fn mode_of_arguments(rt: &(impl Env + Alloc)) -> io::Result<Option<Mode>> {
     Ok(Mode::of(word.as_str()))
 }
 
-/// Says a thing on standard error.
+/// Prints a message on standard error, and returns the status 2.
 fn say(rt: &impl Eprint, words: &str) -> ExitCode {
     let _ = eprintln!(rt; "{words}");
     ExitCode::from(2)
 }
 
-/// Says on standard error why nothing is shown.
+/// Prints on standard error why there is no listing, and returns the status 2.
 fn failed(rt: &impl Eprint, error: RunError) -> ExitCode {
     let _ = eprintln!(rt; "watshow: {error}");
     ExitCode::from(2)

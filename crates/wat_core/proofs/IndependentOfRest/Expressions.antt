@@ -14,7 +14,7 @@ use Rattle.wat_core.proofs.IndependentOfRest.Operands.{instruction_independent}
 
 -- ---- one prefix, before t and before u
 
--- what has the prefix before u, where ts has it before t
+-- the tokens with the prefix before u, if ts has the prefix before t
 record Beside (t u ts : List Tok) : Type 0 where
   front : List Tok
   new : List Tok
@@ -46,11 +46,11 @@ alike_beside {t = t} {u = u} a b = rw (b.old_is, b.new_is) (alike_behind b.front
 
 -- ---- relations between tokens and the rest that they leave
 
--- what holds before t holds before u
+-- a relation that holds before t holds before u
 abbrev Moves : (List Tok → List Tok → Type 0) → Type 0
 Moves P = (ts t u : List Tok) → Alike true t u → P ts t → (b : Beside t u ts) × P b.new u
 
--- before tokens c, and what has moved behind them
+-- before tokens c, and the tokens that have moved after c
 moves_before : {P : List Tok → List Tok → Type 0} {t u m : List Tok} → Moves P → (ts c : List Tok) → Alike true t u → (b : Beside t u m) → P ts (c ++ m) → (d : Beside t u ts) × P d.new (c ++ b.new)
 moves_before {m = m} p ts c a b s =
     let d = with_prefix (c ++ m) c refl b in

@@ -54,7 +54,7 @@ data_independent : IndependentOfRest true data_segment
 unfolding data_segment data_kind data_active data_memory offset_inside head_last
 data_independent = search (independent, label_independent, expression_independent, instruction_independent, data_vals_independent) depth 40
 
--- behind `i32` or `i64`, whether the second token is `(`
+-- after `i32` or `i64`, whether the second token is `(`
 width_then_lparen : IndependentTest true (λ t. (begins_word (codes "i32") t || begins_word (codes "i64") t) && second begins_lparen t)
 width_then_lparen = guarded_test refl (λ x. refl) (either_test (word_test (codes "i32")) (word_test (codes "i64"))) lparen_test
 
@@ -95,7 +95,7 @@ elem_independent = search (independent, label_independent, written_independent, 
 prefix_test : {i : Bool} → IndependentTest i begins_prefix
 prefix_test = search independent depth 40
 
--- behind one of the three words, whether the second token begins a RefType
+-- after one of the three words, whether the second token begins a RefType
 prefix_then_ref : IndependentTest true (λ t. begins_prefix t && second begins_ref t)
 prefix_then_ref = guarded_test refl (λ x. refl) prefix_test begins_ref_test
 

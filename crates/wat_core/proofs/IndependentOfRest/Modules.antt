@@ -1,4 +1,4 @@
--- What tokens spell a module in front of one end they spell in front of each.
+-- Tokens that spell a module before one end spell it before every end.
 use Rattle.std.proofs.Common.{◌≡◌, true, false, List, codes, refl, lit≤}
 use Rattle.wat_tokens.specs.Token.{Tok}
 use Rattle.wat_tokens.specs.Tests.{ends}

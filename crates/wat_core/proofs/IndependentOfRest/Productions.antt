@@ -1,4 +1,4 @@
--- Productions that are spelled before every rest alike where they are spelled before one, and how they are made of others.
+-- Productions whose spellings before one rest are spellings before every alike rest, and combinations of them.
 use Rattle.std.proofs.Common.{◌≡◌, ℕ, ◌≤◌, Bool, true, false, List, [], ◌∷◌, ◌++◌, refl, sym, ◌∙◌, arith}
 use Rattle.wat_tokens.specs.Token.{Tok, RParen}
 use Rattle.wat_tokens.specs.Tests.{more}
@@ -10,7 +10,7 @@ use Rattle.wat_tokens.specs.Groups.{paren, group}
 use Rattle.wat_instr.specs.Laws.Stands.{Stands, stands_sooner, one_stands, made_stands, both_stand, restated_stands, where_stands, opt_stands, many_stands, paren_stands, group_stands}
 use Rattle.wat_core.proofs.IndependentOfRest.Rests.{quiet, Rest, Alike, alike_at_once, alike_behind, ending, IndependentTest, independent_steady, more_test, tests}
 
--- what is spelled before t is spelled before u, where the two are alike
+-- a value that is spelled before t is spelled before u, if t and u are alike
 abbrev pub IndependentOfRest : {A : Type 0} → Bool → Production A → Type 0
 IndependentOfRest i g = Stands (ending i) 0 g
 
@@ -33,11 +33,11 @@ paren_independent p = paren_stands (stands_sooner (omega arith) p)
 pub group_independent : {i : Bool} {A : Type 0} {g : Production A} {w : List ℕ} → IndependentOfRest i g → IndependentOfRest i (group w g)
 group_independent p = group_stands (stands_sooner (omega arith) p)
 
--- ---- groups to the end, as the fields of a module: independent of the rest at an end, where what
--- stands in each is independent of the rest inside
+-- ---- groups to the end, as the fields of a module: independent of the rest at an end, if the contents
+-- of each group are independent of the rest inside
 
 module _ {A : Type 0} (g : Production A) where
-  -- what follows a group is another one, or an end
+  -- another group or an end follows a group
   quiet_behind : (vs : List A) (c t : List Tok) → many_spells more (paren g) vs c t → quiet (c ++ t) ≡ true
   quiet_behind [] c t s = rw (s.0) (quiet_end t s.1)
     where

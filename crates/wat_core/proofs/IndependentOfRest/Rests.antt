@@ -1,4 +1,4 @@
--- Two rests that differ only behind where a group, or the text, ends; and the tests that don't tell them apart.
+-- Two rests that differ only after the end of a group or of the text; and the tests that are equal on both.
 use Rattle.std.proofs.Common.{◌≡◌, ℕ, Bool, true, false, not, ◌||◌, ◌&&◌, List, [], ◌∷◌, ◌++◌, codes, Option, refl, ap, sym, ◌∙◌, bytes_eq, arith}
 use Rattle.wat_tokens.specs.Token.{Tok, LParen, RParen, Keyword, Id, Annotation, Integer, String}
 use Rattle.wat_tokens.specs.Tests.{begins_word, begins_group, begins_annotation, begins_id, begins_integer, ends, more, second, begins_lparen, word_in}
@@ -24,7 +24,7 @@ quiet (LParen ∷ r) = true
 quiet (RParen ∷ r) = true
 quiet (_ ∷ r) = false
 
--- inside a group: what closes it, and then nothing or a parenthesis; else nothing, or what closes a group
+-- inside a group: `)`, and then nothing or a parenthesis; otherwise nothing, or `)`
 abbrev pub Rest : Bool → List Tok → Type 0
 Rest true x = (r : List Tok) × (x ≡ RParen ∷ r) × (quiet r ≡ true)
 Rest false x = ends x ≡ true
@@ -33,7 +33,7 @@ rest_ends : (i : Bool) (x : List Tok) → Rest i x → ends x ≡ true
 rest_ends true x p = rw (p.1) refl
 rest_ends false x p = p
 
--- a prefix in common, and behind it a rest and another one
+-- a common prefix, and after it a rest and another rest
 pub record Alike (i : Bool) (t u : List Tok) : Type 0 where
   pub by : Fronted (λ e r s. Rest i r × Rest i s) t u
 
@@ -43,7 +43,7 @@ alike_at_once t u p q = record { by = fronted t u (p, q) }
 pub alike_behind : {i : Bool} (c t u : List Tok) → Alike i t u → Alike i (c ++ t) (c ++ u)
 alike_behind c t u a = record { by = fronted_behind c t u a.by a.by.fits }
 
--- so alike, however long the prefix is
+-- the rests are alike for every length of the prefix
 abbrev pub ending : Bool → Rests
 ending i = record {
   Alike = λ n t u. Alike i t u;
@@ -54,14 +54,14 @@ ending i = record {
 
 -- ---- tests
 
--- the test answers the same before alike rests
+-- the test returns the same before alike rests
 pub record IndependentTest (i : Bool) (test : List Tok → Bool) : Type 0 where
   pub same : (t u : List Tok) → Alike i t u → test t ≡ test u
 
 pub independent_steady : {i : Bool} {m n : ℕ} {test : List Tok → Bool} → IndependentTest i test → Stable (ending i) m n test
 independent_steady k = record { holds = λ t u a h. sym (k.same t u a) ∙ h; fails = λ t u a h. sym (k.same t u a) ∙ h }
 
--- behind any prefix it answers the same of all ends
+-- after any prefix the test returns the same for all ends
 abbrev AtEnds : (List Tok → Bool) → Type 0
 AtEnds test = (e r s : List Tok) → ends r ≡ true → ends s ≡ true → test (e ++ r) ≡ test (e ++ s)
 
@@ -133,7 +133,7 @@ with_at front = at_first (begins_with front) (begins_with_sees front) refl (λ x
 pub with_test : {i : Bool} (front : List ℕ) → IndependentTest i (begins_with front)
 with_test front = independent_at_ends (begins_with front) (with_at front)
 
--- where it fails of `)`
+-- if the test fails for `)`
 pub one_of_test : {i : Bool} {A : Type 0} (value_of : Tok → Option A) → begins_one_of value_of (RParen ∷ []) ≡ false → IndependentTest i (begins_one_of value_of)
 one_of_test value_of f = independent_at_ends (begins_one_of value_of) (at_first (begins_one_of value_of) (one_of_sees value_of) refl (λ x. f))
 
@@ -170,7 +170,7 @@ annotation_at n (_ ∷ e) r s p q = refl
 pub annotation_test : {i : Bool} (n : List ℕ) → IndependentTest i (begins_annotation n)
 annotation_test n = independent_at_ends (begins_annotation n) (annotation_at n)
 
--- ---- the second token, whatever the first is: inside a group alone
+-- ---- the second token, whatever the first token is: only inside a group
 
 abbrev QuietOff : (List Tok → Bool) → Type 0
 QuietOff test = (r : List Tok) → quiet r ≡ true → test r ≡ false
@@ -210,7 +210,7 @@ alone_at (_ ∷ e) r s p q = refl
 pub alone_test : {i : Bool} → IndependentTest i is_alone
 alone_test = independent_at_ends is_alone alone_at
 
--- ---- a parenthesis, and a word with what follows it
+-- ---- a parenthesis, and a word with the tokens after it
 
 lparen_at : AtEnds begins_lparen
 lparen_at [] r s p q = both_off begins_lparen refl (λ x. refl) r s p q
@@ -220,7 +220,7 @@ lparen_at (_ ∷ e) r s p q = refl
 pub lparen_test : {i : Bool} → IndependentTest i begins_lparen
 lparen_test = independent_at_ends begins_lparen lparen_at
 
--- a test that fails at an end, and with it what the second token has to be
+-- a test that fails at an end, and with it a test of the second token
 guarded_at : (p q : List Tok → Bool) → p [] ≡ false → ((x : List Tok) → p (RParen ∷ x) ≡ false) → AtEnds p → AtEnds q → AtEnds (λ t. p t && second q t)
 guarded_at p q f g h k [] r s a b = rw (fails_at_end p f g r a, fails_at_end p f g s b) refl
 guarded_at p q f g h k (x ∷ e) r s a b = rw (h (x ∷ e) r s a b, k e r s a b) refl
@@ -303,7 +303,7 @@ passive_test = independent_inside begins_passive passive_inside
 
 pub ruleset tests = (either_test, both_test, not_test, always_test, word_test, index_test, id_test, integer_test, with_test, one_of_test, ends_test, more_test, group_test, annotation_test, second_word_test, second_index_test, alone_test, lparen_test, inline_import_test, inline_export_test, typed_test, annotated_test, passive_test)
 
--- ---- the tests by which parts of an instruction are told apart
+-- ---- the tests that distinguish the parts of an instruction
 
 pub tested : Tested (ending true)
 tested = record {

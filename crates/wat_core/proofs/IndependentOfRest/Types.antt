@@ -29,7 +29,7 @@ ref_independent = ref_stands tested
 pub val_independent : IndependentOfRest true val_type
 val_independent = val_stands tested
 
--- ---- what begins them
+-- ---- the beginnings of types
 
 pub begins_ref_test : {i : Bool} → IndependentTest i begins_ref
 unfolding begins_shorthand

@@ -1,4 +1,4 @@
--- Laws: what is visible where no annotation is known, and where the five names are.
+-- Laws: the visible tokens if no annotation is known, and if the five names are known.
 use Rattle.std.proofs.Common.{◌≡◌, ℕ, ◌+◌, Bool, true, false, List, [], ◌∷◌, ◌++◌, drop, refl}
 use Rattle.std.proofs.Common.{ap, ◌∙◌, arith, inl, inr, length, sym, subst, append_assoc, ◌≤◌}
 use Rattle.std.proofs.lemmas.Bool.{cases_Bool}
@@ -9,7 +9,7 @@ use Rattle.wat_tokens.specs.Sight.{hidden_count_at, hidden_count}
 use Rattle.wat_tokens.specs.State.{behind}
 use Rattle.wat_tokens.specs.Token.{Tok, LParen, RParen}
 
--- ---- what is visible behind a token
+-- ---- the visible tokens after a token
 
 past : (n : ℕ) (x : Tok) (r : List Tok) → drop (suc n + 1) (x ∷ r) ≡ drop (n + 1) r
 past n x r = ap (λ (k : ℕ). drop k (x ∷ r)) {x = suc n + 1} {y = suc (n + 1)} (omega arith)
@@ -35,13 +35,13 @@ seen_behind_at known (Some d) (y ∷ r) x l e = elim (cases_Bool (shuts y d)) [
       ∙ seen_behind_at known (Some (deeper y d)) r x l f))
 ]
 
--- behind the first visible token is what is visible behind it
+-- the visible tokens after the first visible token are the rest of the visible tokens
 pub seen_behind : (known : Bool) (t : List Tok) (x : Tok) (l : List Tok)
     → visible_tokens known t ≡ x ∷ l → visible_tokens known (behind known 1 t) ≡ l
 unfolding visible_tokens hidden_count behind
 seen_behind known t x l e = seen_behind_at known None t x l e
 
--- and so behind more of them
+-- the same after several visible tokens
 pub seen_behind_all : (known : Bool) (c t l : List Tok) → visible_tokens known t ≡ c ++ l
     → visible_tokens known (behind known (length c) t) ≡ l
 unfolding behind
@@ -49,7 +49,7 @@ seen_behind_all known [] t l e = e
 seen_behind_all known (x ∷ c) t l e =
     seen_behind_all known c (behind known 1 t) l (seen_behind known t x (c ++ l) e)
 
--- ---- what is hidden with the five names is hidden without
+-- ---- a token that is hidden with the five names is hidden without them
 
 first_so : (a b : Bool) → (a && b) ≡ true → a ≡ true
 first_so true b e = refl
@@ -83,21 +83,21 @@ none_at (Some d) (y ∷ r) e = elim (cases_Bool (shuts y d)) [
       rw h (none_at (Some (deeper y d)) r f))
 ]
 
--- where no token is visible with the five names, none is visible without
+-- if no token is visible with the five names, no token is visible without them
 pub none_seen : (t : List Tok) → visible_tokens true t ≡ [] → visible_tokens false t ≡ []
 unfolding visible_tokens
 none_seen t e = none_at None t e
 
--- ---- what is visible without the five names is visible with them
+-- ---- a token that is visible without the five names is visible with them
 
--- Of a token that is visible without them from the place a on: where it is visible with them from
--- the place b on, and what is visible behind it.
+-- For a token that is visible without the five names from the place a on: its place among the
+-- tokens that are visible with them from the place b on, and the visible tokens after it.
 record Shown (a b : Option ℕ) (t : List Tok) (x : Tok) : Type 0 where
   before : List Tok
   seen : visible true b t
       ≡ before ++ x ∷ visible true None (drop (hidden_count_at false a t + 1) t)
 
--- one token more is in front, which is hidden without them
+-- one more token comes first, and that token is hidden without the five names
 skipped : (a b p q : Option ℕ) (y x : Tok) (r f : List Tok)
     → hidden_count_at false a (y ∷ r) ≡ suc (hidden_count_at false p r)
     → visible true b (y ∷ r) ≡ f ++ visible true q r → Shown p q r x → Shown a b (y ∷ r) x
@@ -177,8 +177,8 @@ shown_at (Some d) (Some e) (y ∷ r) x l w s = elim (cases_Bool (shuts y d)) [
       ])
 ]
 
--- The first token that is visible without the five names is visible with them, and behind it what
--- is visible with them there.
+-- The first token that is visible without the five names is visible with them. The tokens visible
+-- with them after that token are the tokens visible with them in the rest of the text.
 pub shown_too : (t : List Tok) (x : Tok) (l : List Tok) → visible_tokens false t ≡ x ∷ l
     → (b : List Tok) × (visible_tokens true t ≡ b ++ x ∷ visible_tokens true (behind false 1 t))
 unfolding visible_tokens hidden_count behind

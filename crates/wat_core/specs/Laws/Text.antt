@@ -11,7 +11,7 @@ use Rattle.wat_tokens.specs.Sight.{hidden_count, hidden_count_at}
 use Rattle.wat_tokens.specs.State.{behind}
 use Rattle.wat_tokens.specs.Token.{Tok, LParen, RParen}
 
--- ---- tokens that all are visible
+-- ---- tokens that are all visible
 
 one_behind : (known : Bool) (x : Tok) (r : List Tok) → begins_annotation_group (x ∷ r) ≡ false
     → behind known 1 (x ∷ r) ≡ r
@@ -46,8 +46,8 @@ group_is m r d h e s =
           (length-append d (RParen ∷ [])) none);
     }
 
--- Tokens that are one group which spells a module, all of them visible with the five names, and the
--- group no annotation's.
+-- The tokens are one group that spells a module. All tokens are visible with the five names, and
+-- the group isn't an annotation's group.
 pub is_module : (m : ModuleTy) (t : List Tok) → begins_annotation_group t ≡ false
     → visible_tokens true t ≡ t → (paren module_).spells m t [] → IsModule t m
 is_module m t h e (d, is, s) =
@@ -56,9 +56,9 @@ is_module m t h e (d, is, s) =
     (subst (λ (u : List Tok). begins_annotation_group u ≡ false) is h)
     (subst (λ (u : List Tok). visible_tokens true u ≡ u) is e) s)
 
--- ---- tokens of which some are hidden
+-- ---- tokens with hidden tokens among them
 
--- the group that spells the module is among those that are visible with the five names
+-- the group that spells the module is among the tokens that are visible with the five names
 pub group_stands : (m : ModuleTy) (t : List Tok) → IsModule t m
     → (b : List Tok) × (c : List Tok) × (r : List Tok) × (visible_tokens true t ≡ b ++ (c ++ r))
     × (paren module_).spells m c r

@@ -15,7 +15,7 @@ use Rattle.wat_expr.specs.ExpressionProduction.{expression}
 use Rattle.wat_expr.specs.Alone.{alone, nop}
 use Rattle.wat_expr.specs.FoldedProduction.{folded_instruction}
 
--- where an instruction and then an end are read, the expression is that instruction
+-- if an instruction and then an end are read, the expression is that instruction
 pub alone_read : (i : Instr) (c r : List Tok) → instruction.reads (c ++ r) ≡ Some (i, r)
     → ends r ≡ true → expression.reads (c ++ r) ≡ Some (alone i, r)
 unfolding expression
@@ -34,8 +34,8 @@ nop_read r k =
     alone_read nop nop_text r
     (instruction_read (word.Scalar scalar.nop) (codes "nop") refl operands.nothing r r refl) k
 
--- where an instruction that opens no block stands alone in a group, and then an end, the expression
--- is that instruction
+-- if an instruction that opens no block is alone in a group, and an end follows, the expression is
+-- that instruction
 pub grouped_read : (i : Instr) (c r : List Tok)
     → instruction.reads (c ++ RParen ∷ r) ≡ Some (i, RParen ∷ r) → sort i ≡ IsOther → ends r ≡ true
     → expression.reads (in_parens c ++ r) ≡ Some (alone i, r)
@@ -58,7 +58,7 @@ grouped_read i c r e s k =
       refl,
     )
 
--- where it is alone in a group, the folded instruction is that instruction
+-- if an instruction is alone in a group, the folded instruction is that instruction
 pub folded_read : (i : Instr) (c r : List Tok)
     → instruction.reads (c ++ RParen ∷ r) ≡ Some (i, RParen ∷ r)
     → folded_instruction.reads (in_parens c ++ r) ≡ Some (alone i, r)

@@ -1,4 +1,4 @@
--- Laws: what of instructions the items rest on, and what can be behind a list of items.
+-- Laws: facts about instructions that items use, and the tokens that can follow a list of items.
 use Rattle.std.specs.Prelude.{◌≡◌, ◌+◌, ◌≤◌, ◌<◌, List, [], ◌∷◌, ◌++◌, length, Some, codes}
 use Rattle.std.proofs.Common.{ap, subst, sym, ◌∙◌, arith, length-append, append_assoc}
 use Rattle.wat_tokens.specs.Token.{Tok, LParen, RParen, Keyword, String}
@@ -20,14 +20,14 @@ IsWord _ = ⊥
 first_of_list : (x y : Tok) (a b : List Tok) → x ∷ a ≡ y ∷ b → x ≡ y
 first_of_list x y a b e = cc
 
--- what a prefix spells is what is read of it
+-- an instruction that a prefix spells is read from the tokens
 pub read_of : (i : Instr) (ts m : List Tok) → reads i ts m → instruction.reads ts ≡ Some (i, m)
 read_of i ts m (c, e, s) = rw e (instruction.complete i c m s)
 
 pub reads_of : (i : Instr) (ts m : List Tok) → instruction.reads ts ≡ Some (i, m) → reads i ts m
 reads_of i ts m e = instruction.sound ts (i, m) e
 
--- an instruction's first token is a word
+-- the first token of an instruction is a keyword
 pub word_front : (i : Instr) (t : Tok) (u m : List Tok) → reads i (t ∷ u) m → IsWord t
 word_front i t u m h =
     let f = instruction_first (t ∷ u) (i, m) (read_of i (t ∷ u) m h) in
@@ -36,29 +36,29 @@ word_front i t u m h =
 pub reads_nothing : (i : Instr) (m : List Tok) → reads i [] m → ⊥
 reads_nothing i m h = none_is_not (i, m) (sym instruction_none ∙ read_of i [] m h)
 
--- an instruction takes a token
+-- an instruction takes at least one token
 pub reads_shorter : (i : Instr) (ts m : List Tok) → reads i ts m → length m < length ts
 reads_shorter i ts m h = less_left instruction ts i m instruction_consumes (read_of i ts m h)
 
--- its parentheses are balanced
+-- the parentheses of an instruction are balanced
 pub reads_balanced : (i : Instr) (ts m : List Tok) → reads i ts m
     → opens ts + closes m ≡ closes ts + opens m
 reads_balanced i ts m h =
     let e : AreBalanced h.0 = instruction.balanced i h.0 m h.2 in
     omega (arith, e, ap opens h.1, ap closes h.1, opens-append h.0 m, closes-append h.0 m)
 
--- it is read of a prefix
+-- an instruction is read from a prefix
 pub reads_front : (i : Instr) (ts m : List Tok) → reads i ts m → (c : List Tok) × (ts ≡ c ++ m)
 reads_front i ts m h = (h.0, h.1)
 
--- its word isn't `then`
+-- `then` is not a mnemonic
 pub reads_not_then : (i : Instr) (ts m : List Tok) → reads i (keyword (codes "then") ∷ ts) m → ⊥
 reads_not_then i ts m h =
     none_is_not (i, m) (sym (instruction_not_then ts) ∙ read_of i (keyword (codes "then") ∷ ts) m h)
 
--- ---- what lists items is a prefix, with balanced parentheses
+-- ---- the tokens that list items are a prefix with balanced parentheses
 
--- from ts to r: r is shorter or the same, is left of ts, and what is between is balanced
+-- r is what is left of ts after a prefix with balanced parentheses; r is not longer than ts
 pub record Between (ts r : List Tok) : Type 0 where
   pub front : List Tok
   pub is : ts ≡ front ++ r

@@ -1,4 +1,4 @@
--- Laws: what a folded instruction spells is what is read.
+-- Laws: the reader of folded instructions agrees with the tokens that spell them.
 use Rattle.std.specs.Prelude.{◌≡◌, ℕ, zero, suc, ◌<◌, ◌≤◌, List, [], ◌∷◌, ◌++◌, length, Some, refl}
 use Rattle.std.proofs.Common.{ap, subst, ◌∙◌, arith, length-append}
 use Rattle.wat_tokens.specs.Token.{Tok, LParen, RParen}
@@ -15,7 +15,7 @@ use Rattle.wat_expr.specs.Laws.Facts.{reads_of, reads_front, reads_balanced, Bet
 use Rattle.wat_expr.specs.Laws.Facts.{group_is, read_of, reads_shorter}
 use Rattle.wat_expr.specs.Laws.Reading.{shut_is}
 
--- ---- it and the relation are one
+-- ---- the reader agrees with the relation
 
 no_group_read : (t : List Tok) (x : Groups × List Tok) → some_of (NoGroup, t) ≡ some_of x
     → groups x.0 t x.1

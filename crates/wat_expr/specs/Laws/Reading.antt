@@ -1,4 +1,4 @@
--- Laws: the reader of items and `lists` are one.
+-- Laws: the reader of items agrees with `lists`.
 use Rattle.std.specs.Prelude.{◌≡◌, ℕ, zero, suc, ◌<◌, ◌≤◌, nat_lt, true, false, if◌then◌else◌, List}
 use Rattle.std.specs.Prelude.{[], ◌∷◌, ◌++◌, length, Some, None, codes, refl}
 use Rattle.std.proofs.Common.{ap, subst, sym, ◌∙◌, arith}
@@ -23,7 +23,7 @@ use Rattle.wat_expr.specs.Reading.{to_the_end, expression_reads}
 use Rattle.wat_expr.specs.Laws.Facts.{reads_of, reads_not_then, read_of, word_front, reads_nothing}
 use Rattle.wat_expr.specs.Laws.Facts.{reads_shorter, lists_between}
 
--- ---- what is read is listed
+-- ---- read items are listed
 
 are_groups_so : (xs : Items) → are_groups xs ≡ true → AreGroups xs
 are_groups_so Nil e = tt
@@ -237,7 +237,7 @@ unfolding items_at
 items_at_sound zero t x e = none_is_not x e
 items_at_sound (suc n) t x e = items_sound (items_at n) (items_at_sound n) t x e
 
--- ---- what is listed is read
+-- ---- listed items are read
 
 so_are_groups : (xs : Items) → AreGroups xs → are_groups xs ≡ true
 so_are_groups Nil g = refl
@@ -287,7 +287,7 @@ module _ (rec : List Tok → Read Items) where
   begins_group i (Keyword w ∷ t) b h = rw (not_then i w t b h, read_of i (Keyword w ∷ t) b h) refl
   begins_group i (k ∷ t) b h = absurd (word_front i k t b h)
 
--- what is in a group, and what is behind the token that ends it, are shorter than all
+-- the contents of a group, and the rest after its last token, are shorter than all tokens
 group_shorter : (i : Instr) (ys : Items) (n : ℕ) (ts a b : List Tok) (x : Tok) (d : List Tok)
     → length ts < suc n → ts ≡ LParen ∷ a → reads i a b → lists ys b (x ∷ d)
     → (length b < n) × (length d < n)

@@ -1,4 +1,4 @@
--- Laws: what an element segment holds.
+-- Laws: the elements of an element segment.
 use Rattle.std.specs.Prelude.{◌≤◌}
 use Rattle.std.proofs.Common.{lit≤}
 use Rattle.wat_expr.specs.ExpressionProduction.{expression}

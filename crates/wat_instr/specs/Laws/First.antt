@@ -1,4 +1,4 @@
--- Laws: what an instruction begins with.
+-- Laws: the first token of an instruction.
 use Rattle.std.specs.Prelude.{◌≡◌, ℕ, ◌≤◌, List, [], ◌∷◌, ◌++◌, codes, Some, None, refl}
 use Rattle.std.proofs.Common.{ap, ◌∙◌, arith}
 use Rattle.wat_tokens.specs.Token.{Tok, Keyword}
@@ -10,17 +10,17 @@ use Rattle.wat_mnemonics.specs.declared.op.Op.{Op}
 use Rattle.wat_instr.specs.Instruction.{Instr, instr_of, behind_word, instruction}
 use Rattle.wat_instr.specs.Operand.{Operand, operand}
 
--- nothing is read from no tokens
+-- no instruction is read from the empty list of tokens
 pub instruction_none : instruction.reads [] ≡ None
 unfolding instruction
 instruction_none = refl
 
--- at least one token is taken
+-- an instruction takes at least one token
 pub instruction_consumes : 1 ≤ instruction.least
 unfolding instruction
 instruction_consumes = omega arith
 
--- the first token is a word
+-- the first token is a keyword
 pub instruction_first : (t : List Tok) (x : Instr × List Tok) → instruction.reads t ≡ Some x
     → (w : List ℕ) × (r : List Tok) × (t ≡ Keyword w ∷ r)
 unfolding instruction
@@ -33,12 +33,12 @@ then_is_none : mnemonic_of (codes "then") ≡ None
 unfolding mnemonic_of
 then_is_none = refl
 
--- no instruction's word is `then`
+-- `then` is not a mnemonic
 pub instruction_not_then : (t : List Tok) → instruction.reads (Keyword (codes "then") ∷ t) ≡ None
 unfolding instruction
 instruction_not_then t = rw then_is_none refl
 
--- a row's word in front, and its operand behind it
+-- a mnemonic, and the operand after the mnemonic, are read as the instruction
 pub instruction_read : (h : Op) (w : List ℕ) → op_word h ≡ w
     → (o : Operand) (t r : List Tok)
     → (operand h).reads t ≡ Some (o, r)

@@ -1,4 +1,4 @@
--- Laws: indices, numbers and accesses stand before each rest that is alike.
+-- Laws: indices, numbers and accesses are spelled by the same tokens before each alike rest.
 use Rattle.std.specs.Prelude.{◌≡◌, ℕ, ◌≤◌, Bool, true, false, List, [], ◌∷◌, ◌++◌, length, codes}
 use Rattle.std.specs.Prelude.{Option, Some, None, refl}
 use Rattle.std.proofs.Common.{arith, lit≤, length-append, inl, inr, ap}
@@ -25,9 +25,9 @@ use Rattle.wat_instr.specs.Laws.Stands.{Stands, AtLeast, one_stands, none_stands
 use Rattle.wat_instr.specs.Laws.Stands.{both_stand, restated_stands, choice_stands, where_stands}
 use Rattle.wat_instr.specs.Laws.Stands.{opt_stands, many_stands, group_stands}
 
--- ---- what a lane and its access take
+-- ---- the number of tokens that a lane and its access take
 
--- no access of no tokens stands before an integer
+-- an access before an integer takes at least one token
 index_takes : (o : Option Idx) (c t : List Tok) (text : List ℕ)
     → opt_spells begins_index index o c (Integer text ∷ t) → 1 ≤ length c
 index_takes (Some i) c t text s = index.takes i c (Integer text ∷ t) s.1
@@ -55,7 +55,7 @@ lane_takes : (a : ℕ) (v : MemArgTy) (x : Tok) (n : ℕ) (d t : List Tok) → l
 lane_takes a v (Integer text) n d t e s = mem_arg_takes a v d t text s
 lane_takes a v _ n d t e s = absurd cc
 
--- an access and a lane take two tokens or more
+-- an access and a lane take at least two tokens if `is_alone` fails
 lane_access_takes : (a : ℕ) → AtLeast 2 is_alone false (made access_of (seq (mem_arg a) lane_arg))
 unfolding lane_arg
 lane_access_takes a v c t k s =

@@ -1,4 +1,4 @@
--- Laws: operands and instructions stand before each rest that is alike.
+-- Laws: operands and instructions are spelled by the same tokens before each alike rest.
 use Rattle.std.specs.Prelude.{true, false, codes, refl}
 use Rattle.std.proofs.Common.{lit≤}
 use Rattle.wat_types.specs.Group.{val_types}
@@ -60,7 +60,7 @@ module _ {R : Rests} (s : Tested R) where
       some_many_stands result_group_consumes s.second_result (lit≤ tt) (lit≤ tt)
       (group_stands (val_types_stand s))
 
-  -- ---- what is caught
+  -- ---- catch clauses
 
   catch_kind_stands : Stands R 1 catch_kind
   unfolding catch_kind

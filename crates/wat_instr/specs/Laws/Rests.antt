@@ -1,4 +1,4 @@
--- Laws: rests that are alike, and the tests that don't tell them apart.
+-- Laws: alike rests, and the tests that don't distinguish them.
 use Rattle.std.specs.Prelude.{◌≡◌, ℕ, ◌+◌, ◌≤◌, Bool, true, false, List, ◌∷◌, ◌++◌, length}
 use Rattle.std.specs.Prelude.{[], codes, ◌||◌, refl}
 use Rattle.std.proofs.Common.{ap, sym, ◌∙◌, append_assoc}
@@ -14,8 +14,8 @@ use Rattle.wat_types.specs.Value.{plain_words}
 use Rattle.wat_operands.specs.Memory.{begins_with}
 use Rattle.wat_operands.specs.Lanes.{is_alone}
 
--- Alike n t u: a prefix of n tokens or more stands in both t and u, and what they have behind it
--- counts as alike. So do t and u behind level tokens, and behind what closes a group.
+-- Alike n t u: t and u share a prefix of at least n tokens, and their rests after the prefix count
+-- as alike. Alike rests stay alike after balanced tokens, and after a `)`.
 pub record Rests : Type 1 where
   pub Alike : ℕ → List Tok → List Tok → Type 0
   pub fewer : (m n : ℕ) (t u : List Tok) → m ≤ n → Alike n t u → Alike m t u
@@ -23,7 +23,7 @@ pub record Rests : Type 1 where
       → Alike (k + n) (c ++ t) (c ++ u)
   pub shut : (t u : List Tok) (n : ℕ) → Alike n t u → Alike (1 + n) (RParen ∷ t) (RParen ∷ u)
 
--- t and u have a prefix in common, and E says of it and of what they have behind it what is asked
+-- t and u share a prefix; E holds for the prefix and the two rests after it
 pub record Fronted (E : List Tok → List Tok → List Tok → Type 0) (t u : List Tok) : Type 0 where
   pub front : List Tok
   pub old : List Tok
@@ -32,7 +32,7 @@ pub record Fronted (E : List Tok → List Tok → List Tok → Type 0) (t u : Li
   pub new_is : u ≡ front ++ new
   pub fits : E front old new
 
--- with tokens more in front
+-- with more tokens before both lists
 pub fronted_behind : {E F : List Tok → List Tok → List Tok → Type 0} (c t u : List Tok)
     → (a : Fronted E t u) → F (c ++ a.front) a.old a.new → Fronted F (c ++ t) (c ++ u)
 fronted_behind c t u a f = record {
@@ -44,19 +44,19 @@ fronted_behind c t u a f = record {
   fits = f;
 }
 
--- with none
+-- with an empty prefix
 pub fronted : {E : List Tok → List Tok → List Tok → Type 0} (t u : List Tok) → E [] t u
     → Fronted E t u
 fronted t u f =
     record { front = []; old = t; new = u; old_is = refl; new_is = refl; fits = f }
 
--- the test answers the same before a rest that is alike: where it holds, at a front of i tokens or
--- more; where it fails, of j or more
+-- The test returns the same for alike rests. If the test holds, a front of i tokens is enough. If
+-- the test fails, a front of j tokens is enough.
 pub record Stable (R : Rests) (i j : ℕ) (test : List Tok → Bool) : Type 0 where
   pub holds : (t u : List Tok) → R.Alike i t u → test t ≡ true → test u ≡ true
   pub fails : (t u : List Tok) → R.Alike j t u → test t ≡ false → test u ≡ false
 
--- a test that needs fewer
+-- a stable test is also stable for longer fronts
 pub steady_sooner : {R : Rests} {test : List Tok → Bool} {i j k l : ℕ} → i ≤ k → j ≤ l
     → Stable R i j test → Stable R k l test
 steady_sooner {R = R} {i = i} {j = j} {k = k} {l = l} p q s = record {
@@ -64,7 +64,7 @@ steady_sooner {R = R} {i = i} {j = j} {k = k} {l = l} p q s = record {
   fails = λ t u a. s.fails t u (R.fewer j l t u q a);
 }
 
--- one of two tests
+-- a disjunction of two tests
 pub either_steady : {R : Rests} {i j : ℕ} {a b : List Tok → Bool} → Stable R i j a → Stable R i j b
     → Stable R i j (λ t. a t || b t)
 either_steady {a = a} {b = b} p q = record {
@@ -75,11 +75,11 @@ either_steady {a = a} {b = b} p q = record {
       or_from (a u) (b u) (p.fails t u l z.0) (q.fails t u l z.1));
 }
 
--- no test at all
+-- the test that always fails
 pub never_steady : {R : Rests} (i j : ℕ) → Stable R i j (λ t. false)
 never_steady i j = record { holds = λ t u l k. k; fails = λ t u l k. k }
 
--- the tests by which parts of an instruction are told apart
+-- the tests that distinguish the parts of an instruction
 pub record Tested (R : Rests) : Type 0 where
   pub word : (w : List ℕ) → Stable R 1 1 (begins_word w)
   pub seqcst : Stable R 1 0 (begins_word (codes "seqcst"))

@@ -10,7 +10,7 @@ use Rattle.wat_tokens.specs.Index.{begins_index}
 use Rattle.wat_operands.specs.Memory.{begins_with}
 use Rattle.wat_operands.specs.Lanes.{goes_on, is_alone}
 
--- the test looks at n tokens at most
+-- the test looks at the first n tokens at most
 abbrev pub Sees : ℕ → (List Tok → Bool) → Type 0
 Sees n test = (e r s : List Tok) → n ≤ length e → test (e ++ r) ≡ test (e ++ s)
 
@@ -79,7 +79,7 @@ is_alone_sees [] r s le = absurd (omega (arith, le))
 is_alone_sees (Integer text ∷ e) r s le = ap not (goes_on_sees e r s (omega (arith, le)))
 is_alone_sees (_ ∷ e) r s le = refl
 
--- a test that fails of no tokens and of `)` fails where a group ends
+-- a test that fails on the empty list and on `)` fails at the end of a group
 pub fails_at_end : (test : List Tok → Bool) → test [] ≡ false
     → ((x : List Tok) → test (RParen ∷ x) ≡ false) → (r : List Tok) → ends r ≡ true
     → test r ≡ false

@@ -1,5 +1,5 @@
--- Laws: productions that stand before each rest that is alike where they stand before one, and how
--- they are made of others.
+-- Laws: productions whose tokens spell the same value before each alike rest, and the ways to build
+-- such productions from others.
 use Rattle.std.specs.Prelude.{◌≡◌, ℕ, ◌+◌, ◌≤◌, Bool, true, false, List, [], ◌∷◌, ◌++◌, length}
 use Rattle.std.specs.Prelude.{Option, Some, None, refl}
 use Rattle.std.proofs.Common.{arith, inl, inr, length-append}
@@ -17,7 +17,8 @@ use Rattle.wat_tokens.specs.Floats.{none}
 use Rattle.wat_tokens.specs.Followed.{followed, blank}
 use Rattle.wat_instr.specs.Laws.Rests.{Rests, Stable}
 
--- what is spelled before t is spelled before u, where t and u are alike at a front of n tokens
+-- tokens that spell a value before t also spell it before u, if t and u are alike at a front of n
+-- tokens
 pub record Stands {A : Type 0} (R : Rests) (n : ℕ) (g : Production A) : Type 0 where
   pub moves : (v : A) (c t u : List Tok) → R.Alike n t u → g.spells v c t → g.spells v c u
 
@@ -26,7 +27,7 @@ pub stands_sooner : {R : Rests} {A : Type 0} {g : Production A} {m n : ℕ} → 
 stands_sooner {R = R} {m = m} {n = n} le p =
     record { moves = λ v c t u a s. p.moves v c t u (R.fewer m n t u le a) s }
 
--- what is spelled is a prefix too
+-- alike rests stay alike after tokens that spell a value
 behind_part : (R : Rests) {A : Type 0} (g : Production A) (v : A) (c t u : List Tok) (i k n : ℕ)
     → g.spells v c t → k ≤ length c → i ≤ k + n → R.Alike n t u → R.Alike i (c ++ t) (c ++ u)
 behind_part R g v c t u i k n s le some a =
@@ -45,7 +46,7 @@ module _ {R : Rests} {A : Type 0} {n : ℕ} where
       → Stands R n (made_where ok f g)
   made_stands p = record { moves = λ v c t u a s. (s.0, p.moves s.0 c t u a s.1, s.2, s.3) }
 
-  -- the first part stands before the second and the rest
+  -- the first part is followed by the second part and the rest
   pub seq_stands : {B : Type 0} {g : Production A} {h : Production B} {m : ℕ} → m ≤ h.least + n
       → Stands R m g → Stands R n h → Stands R n (seq g h)
   seq_stands {h = h} {m = m} le p q = record {
@@ -54,7 +55,7 @@ module _ {R : Rests} {A : Type 0} {n : ℕ} where
         (s.0, s.1, s.2, p.moves v.0 s.0 (s.1 ++ t) (s.1 ++ u) b s.3, q.moves v.1 s.1 t u a s.4));
   }
 
-  -- a first part that needs no front
+  -- the first part needs no front
   pub both_stand : {B : Type 0} {g : Production A} {h : Production B} → Stands R 0 g → Stands R n h
       → Stands R n (seq g h)
   both_stand p q = seq_stands (omega arith) p q
@@ -68,13 +69,13 @@ module _ {R : Rests} {A : Type 0} {n : ℕ} where
 
 -- ---- choices
 
--- a part takes k tokens or more, where the test of the tokens in front answers so
+-- a part takes at least k tokens if the test returns b on the part and its rest
 abbrev pub AtLeast : {A : Type 0} → ℕ → (List Tok → Bool) → Bool → Production A → Type 0
 AtLeast {A} k test b g =
     (v : A) (c t : List Tok) → test (c ++ t) ≡ b → g.spells v c t → k ≤ length c
 
 module _ {R : Rests} {A : Type 0} {test : List Tok → Bool} {g h : Production A} {i j n : ℕ} where
-  -- where each branch takes enough tokens to settle the test
+  -- each branch takes enough tokens to decide the test
   pub choice_stands : (k l : ℕ) → Stable R i j test → AtLeast k test true g → AtLeast l test false h
       → i ≤ k + n → j ≤ l + n → Stands R n g → Stands R n h → Stands R n (where_else test g h)
   choice_stands k l steady more less some others p q = record { moves = moves }
@@ -95,7 +96,7 @@ module _ {R : Rests} {A : Type 0} {test : List Tok → Bool} {g h : Production A
       (λ v c t k s. h.takes v c t s) some others p q
 
 module _ {R : Rests} {A : Type 0} {begins : List Tok → Bool} {g : Production A} {i j n : ℕ} where
-  -- where the part takes enough tokens, once it has begun
+  -- the part takes enough tokens if it begins
   pub begun_stands : (k : ℕ) → Stable R i j begins → AtLeast k begins true g → i ≤ k + n → j ≤ n
       → Stands R n g → Stands R n (opt begins g)
   begun_stands k steady takes some others p = record { moves = moves }
@@ -133,7 +134,7 @@ module _ {R : Rests} {A : Type 0} {begins : List Tok → Bool} {g : Production A
             moves vs s.1 t u a s.5,
           )
 
--- parts as long as one follows, there where one does
+-- an optional list of parts: one test decides if the list begins and if a part follows
 module _ {R : Rests} {A B : Type 0} {begins : List Tok → Bool} {g : Production A} where
   pub some_many_stands : {f : List A → B} {i j n : ℕ} (consumes : 1 ≤ g.least) → Stable R i j begins
       → i ≤ g.least + n → j ≤ n → Stands R n g
@@ -172,15 +173,15 @@ module _ {R : Rests} {A : Type 0} {g : Production A} {n : ℕ} where
       paren_stands
       (made_stands (both_stand (one_stands (refl, refl)) (stands_sooner (omega arith) p)))
 
-  -- word g
+  -- a keyword, then g
   pub behind_stands : {w : List ℕ} → Stands R n g → Stands R n (after_word w g)
   behind_stands p = made_stands (both_stand (one_stands (refl, refl)) p)
 
--- word?, where more of the group follows
+-- an optional keyword, if more of the group follows
 pub flag_stands : {R : Rests} {w : List ℕ} → Stable R 1 1 (begins_word w) → Stands R 1 (flag w)
 flag_stands s = made_stands (opt_stands s (omega arith) (omega arith) (one_stands (refl, refl)))
 
--- ---- a part that decides what follows it, and no tokens
+-- ---- a part that decides the next part, and the empty list of tokens
 
 module _ {R : Rests} {A : Type 0} {n : ℕ} where
   pub followed_stands : {B : Type 0} {g : Production A} {h : A → Production B} → Stands R 0 g

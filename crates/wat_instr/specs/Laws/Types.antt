@@ -1,4 +1,4 @@
--- Laws: types stand before each rest that is alike.
+-- Laws: types are spelled by the same tokens before each alike rest.
 use Rattle.std.specs.Prelude.{◌≡◌, ◌≤◌, Bool, true, false, ◌&&◌, List, [], ◌∷◌, ◌++◌, length}
 use Rattle.std.specs.Prelude.{codes, refl}
 use Rattle.std.proofs.Common.{arith, lit≤, length-append}

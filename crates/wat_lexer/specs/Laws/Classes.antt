@@ -73,7 +73,7 @@ name_complete (b ∷ t) n (l, inr (s, u)) =
 
 -- COMPLETE
 
--- a keyword's first byte is not that of another class
+-- idchars that begin with a lowercase letter are a keyword and have no other class
 class_keyword : (behind : Bool) (b : ℕ) (y : List ℕ) → Idchars (b ∷ y) → between 97 122 b ≡ true → class behind (b ∷ y) ≡ Keyword (b ∷ y)
 unfolding class
 class_keyword behind b y all low =
@@ -82,7 +82,7 @@ class_keyword behind b y all low =
     let at : (behind && (b == 64)) ≡ false = grind (arith, nat_tests) in
     rw (quote, dollar, at, idchars_complete (b ∷ y) all, low)
 
--- what an integer begins with is no quote, `$`, `@` or letter
+-- an integer doesn't begin with a quote, `$`, `@` or a letter
 integer_starts : (b : ℕ) (y : List ℕ) → is_integer (b ∷ y) ≡ true → (43 ≤ b) × (b ≤ 57)
 unfolding read
 integer_starts b y h = grind (arith, nat_tests)
@@ -111,7 +111,7 @@ class_complete behind x (Integer k) (e, all, h) = class_integer behind x all h �
 class_complete behind x (String c) (y, e, h) = rw (e, string_of_complete (34 ∷ y) c (y, refl, h))
 class_complete behind x _ h = absurd h
 
--- SOUND: the class that is found is the run's, or the run is reserved
+-- SOUND: the class that is found is the class of the run, or the run is reserved
 
 abbrev pub KnownRight : Bool → List ℕ → Tok → Type 0
 KnownRight behind x (Reserved k) = x ≡ k
@@ -151,6 +151,6 @@ none_is : (behind : Bool) (x : List ℕ) (t : Tok) → ((t : Tok) → Classed be
 none_is behind x (Reserved n) fits h = rw h
 none_is behind x t fits h = absurd (fits t h)
 
--- where no class fits, the run is reserved
+-- if no class fits, the run is reserved
 pub class_none : (behind : Bool) (x : List ℕ) → ((t : Tok) → Classed behind x t → ⊥) → class behind x ≡ Reserved x
 class_none behind x fits = none_is behind x (class behind x) fits (class_right behind x)

@@ -1,4 +1,4 @@
--- What is in front of a text is exact, and so a text has at most one cut.
+-- The blank or token in front of a text is exact, and so a text has at most one cut.
 use Rattle.std.proofs.Common.{◌≡◌, ℕ, ◌+◌, ◌-◌, ◌<◌, List, [], ◌∷◌, ◌++◌, length, take, refl, ap, sym, subst, ◌∙◌, arith, inl, inr, length-append}
 use Rattle.std.specs.Prelude.{Bool, ◌⊎◌, true, false, ◌==◌, ◌&&◌, not, if◌then◌else◌, Option, None, Some}
 use Rattle.std.proofs.Math.Seq.{take-append_seam}
@@ -44,7 +44,7 @@ token_of behind x rest _ c l r k h = (r, k, h)
 front_of : (s x rest : List ℕ) → s ≡ x ++ rest → take (length s - length rest) s ≡ x
 front_of s x rest e = let n : length s - length rest ≡ length x = omega (arith, ap length e, length-append x rest) in rw (n, e) (take-append_seam x rest)
 
--- a byte that begins no blank and no token but a run
+-- a byte that begins no blank, and no token except a run
 abbrev NoPiece : ℕ → List ℕ → Type 0
 NoPiece b t = (is_space b ≡ false) × ((b == 40) ≡ false) × ((b == 41) ≡ false) × ((b == 59) ≡ false)
 
@@ -152,7 +152,7 @@ broken_front behind s f at (wrong_string x rest r h) = rw (front_run behind x (3
 
 -- CUTS
 
--- what a cut is, by what is in front
+-- the cut of a text, by the blank or token in front
 abbrev pub CutBy : ℕ → List ℕ → Beginning → List Placed → Type 0
 CutBy n s Nothing ts = ts ≡ []
 CutBy n s (BlankTo rest) ts = Cuts n false rest ts
@@ -185,7 +185,7 @@ one_cut (token m w text x rest t vs e b c) k =
 
 -- FIRST FAULTS
 
--- where a text fails, by what is in front
+-- a fault of a text, by the blank or token in front
 abbrev pub FailsBy : Beginning → Fault → List ℕ → Type 0
 FailsBy Nothing f at = ⊥
 FailsBy (BlankTo rest) f at = Fails false rest f at

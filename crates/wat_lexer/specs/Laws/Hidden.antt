@@ -1,4 +1,4 @@
--- Laws: where no hidden group begins.
+-- Laws: places where no hidden group begins.
 use Rattle.std.specs.Prelude.{◌≡◌, ℕ, ◌+◌, ◌<◌, ◌≤◌, Bool, false, List, [], ◌∷◌, length, drop}
 use Rattle.std.specs.Prelude.{refl}
 use Rattle.std.proofs.Common.{arith}
@@ -17,18 +17,18 @@ few known [] h = refl
 few known (x ∷ []) h = alone known x.token
 few known (x ∷ y ∷ ls) h = absurd (omega arith)
 
--- where fewer than two tokens are left
+-- if fewer than two tokens are left
 pub begins_hidden_few : (known : Bool) (ls : List Entry) (i : ℕ) → length ls ≤ i + 1
     → begins_hidden_group known (toks (drop i ls)) ≡ false
 begins_hidden_few known ls i h = few known (drop i ls) (omega (arith, length-drop i ls))
 
--- where a token other than `(` is in front
+-- if a token other than `(` is in front
 pub begins_hidden_not_open : (known : Bool) (t : Tok) (r : List Tok) → is_open t ≡ false
     → begins_hidden_group known (t ∷ r) ≡ false
 begins_hidden_not_open known LParen r h = cc
 begins_hidden_not_open known _ r h = refl
 
--- where no `(` is
+-- if the token at the index isn't `(`
 pub begins_hidden_none : (known : Bool) (ls : List Entry) (i : ℕ) → i < length ls
     → is_open ((get_or ls i no_entry).token) ≡ false
     → begins_hidden_group known (toks (drop i ls)) ≡ false
@@ -42,7 +42,7 @@ no_annotation known LParen (Annotation n) r h = cc
 no_annotation known LParen _ r h = refl
 no_annotation known _ t r h = refl
 
--- where no annotation is the second
+-- if the token after the index isn't an annotation
 pub begins_hidden_other : (known : Bool) (ls : List Entry) (i : ℕ) → i + 1 < length ls
     → is_annotation ((get_or ls (i + 1) no_entry).token) ≡ false
     → begins_hidden_group known (toks (drop i ls)) ≡ false

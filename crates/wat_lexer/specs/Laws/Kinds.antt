@@ -1,4 +1,4 @@
--- Laws: what a token's kind tells, and the tokens without their places.
+-- Laws: the kinds of tokens, and tokens without their offsets.
 use Rattle.std.specs.Prelude.{◌≡◌, true, List, [], ◌∷◌}
 use Rattle.std.proofs.Common.{refl, ap}
 use Rattle.wat_lexer.specs.Token.{Tok, Entry, LParen, RParen, tokens_of, is_open, is_close}
@@ -12,7 +12,7 @@ pub close_is : (t : Tok) → is_close t ≡ true → t ≡ RParen
 close_is RParen h = refl
 close_is _ h = cc
 
--- the tokens of what is kept, with or without their places
+-- the tokens of entries, with or without their offsets
 pub tokens_of-placed : (ls : List Entry) → tokens_of (placed ls) ≡ toks ls
 tokens_of-placed [] = refl
 tokens_of-placed (x ∷ ls) = ap (λ l. entry_tok x ∷ l) (tokens_of-placed ls)

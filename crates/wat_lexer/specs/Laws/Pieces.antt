@@ -1,4 +1,4 @@
--- The scans of comments and runs are exact for what these are.
+-- The scans of comments and runs are exact: they agree with the definitions.
 use Rattle.std.proofs.Common.{◌≡◌, ℕ, zero, suc, ◌+◌, ◌-◌, ◌≤◌, List, [], ◌∷◌, ◌++◌, refl, ap, sym, subst, ◌∙◌, arith, append_assoc, length, length-append}
 use Rattle.std.specs.Prelude.{if◌then◌else◌, option_map, true, false, ◌==◌, ◌&&◌, Option, None, Some, encode_utf8}
 use Rattle.std.specs.List.{AllByRecursion}
@@ -65,12 +65,12 @@ line_complete (b ∷ x) rest h e = rw (h.0) (line_complete x rest h.1 e)
 
 -- RUNS
 
--- the text at which a run was left
+-- the text from the end of a run on, or from an invalid string in the run on
 abbrev pub end_of : RunEnd → List ℕ
 end_of (Ends rest) = rest
 end_of (Stuck q) = q
 
--- why it was left there
+-- the reason why a run ends there
 abbrev pub RunStops : RunEnd → Type 0
 RunStops (Ends rest) = Begins in_no_run rest
 RunStops (Stuck q) = (t : List ℕ) × (q ≡ 34 ∷ t) × (string_at Raw t ≡ None)
@@ -78,7 +78,7 @@ RunStops (Stuck q) = (t : List ℕ) × (q ≡ 34 ∷ t) × (string_at Raw t ≡ 
 abbrev pub RunUpTo : List ℕ → RunEnd → Type 0
 RunUpTo s e = (x : List ℕ) × (s ≡ x ++ end_of e) × Run x × RunStops e
 
--- within a string a run goes on behind the string
+-- within a string a run goes on after the string
 abbrev pub then_run : List ℕ → Option (List ℕ) → RunEnd
 then_run q None = Stuck q
 then_run q (Some r) = behind_run Between r
@@ -106,7 +106,7 @@ pub run_cons : (b : ℕ) (t : List ℕ) → behind_run Between (b ∷ t) ≡ (if
 unfolding behind_run rest_at
 run_cons b t = ap (λ o. if b == 34 then o else (if is_idchar b then behind_run Between t else Ends (b ∷ t))) (run_in_string t (b ∷ t) Raw)
 
--- a run from a quote on, by what the string is
+-- a run from a quote on, by the string after the quote
 from_quote : (b : ℕ) (t : List ℕ) (o : Option (List ℕ × List ℕ)) → b ≡ 34 → string_at Raw t ≡ o → ((r : List ℕ) → length r ≤ length t → RunUpTo r (behind_run Between r)) → RunUpTo (b ∷ t) (then_run (b ∷ t) (rest_of o))
 from_quote b t None e h behind = ([], refl, none, (t, ap (λ c. c ∷ t) e, h))
 from_quote b t (Some (c, r)) e h behind =
@@ -114,7 +114,7 @@ from_quote b t (Some (c, r)) e h behind =
     let (x, tail, run, stops) = behind r (omega (arith, ap length s, length-append y r)) in
     (34 ∷ (y ++ x), (λ i. e i ∷ (s ∙ ap (λ l. y ++ l) tail ∙ sym (append_assoc y x (end_of (behind_run Between r)))) i), string y c x str run, stops)
 
--- a run is left where no further part stands, or at a string that is none
+-- a run ends where no further part of it begins, or at an invalid string
 pub run_sound : (n : ℕ) (s : List ℕ) → length s ≤ n → RunUpTo s (behind_run Between s)
 unfolding behind_run rest_at
 run_sound n [] le = ([], refl, none, tt)
@@ -134,7 +134,7 @@ ends_here (b ∷ t) h = grind (arith, nat_tests, run_cons)
 pub excluded : (b c : ℕ) → is_idchar b ≡ true → is_idchar c ≡ false → (b == c) ≡ false
 excluded b c h k = grind (arith, nat_tests, h, k)
 
--- the parts of a run are passed
+-- the scan passes the parts of a run
 run_passes : (x rest : List ℕ) → Run x → behind_run Between (x ++ rest) ≡ behind_run Between rest
 unfolding rest_at
 run_passes x rest none = refl

@@ -1,4 +1,4 @@
--- The reader of strings is exact for what a string is.
+-- The reader of strings is exact: it agrees with the definition of strings.
 use Rattle.std.proofs.Common.{◌≡◌, ℕ, ◌+◌, ◌*◌, ◌<◌, ◌≤◌, List, [], ◌∷◌, ◌++◌, refl, ap, sym, subst, ◌∙◌, arith, append_assoc, append-nil, inl, inr}
 use Rattle.std.specs.Prelude.{Bool, true, false, ◌==◌, ◌&&◌, nat_lt, if◌then◌else◌, Option, None, Some, encode_utf8}
 use Rattle.std.specs.Char.{digit_value}
@@ -15,7 +15,7 @@ pub if_either : {A : Type 0} (P : A → Type 0) (b : Bool) (x y : A) → (b ≡ 
 if_either P true x y t f = t refl
 if_either P false x y t f = f refl
 
--- what was read of a string where the reader is in a mode
+-- the bytes of an element that the reader has read, by the reader's mode
 abbrev pub Reached : Mode → List ℕ → Type 0
 Reached Raw p = p ≡ []
 Reached Escape p = p ≡ 92 ∷ []
@@ -65,7 +65,7 @@ reach (Digits n behind) p b (x, e, reads) =
 pub some_same : {A : Type 0} {x y : A} → Some x ≡ Some y → x ≡ y
 some_same e = cc
 
--- SOUND: what the reader finds is a string
+-- SOUND: the reader finds only strings
 
 abbrev Found : List ℕ → List ℕ → List ℕ → List ℕ → Type 0
 Found p s c rest = (y : List ℕ) × (s ≡ y ++ rest) × Str (p ++ y) c
@@ -74,7 +74,7 @@ Found p s c rest = (y : List ℕ) × (s ≡ y ++ rest) × Str (p ++ y) c
 moved : (p : List ℕ) (b : ℕ) (t c rest : List ℕ) → Found (p ++ b ∷ []) t c rest → Found p (b ∷ t) c rest
 moved p b t c rest (y, e, h) = (b ∷ y, ap (λ l. b ∷ l) e, subst (λ l. Str l c) (append_assoc p (b ∷ []) y) h)
 
--- the element that ends with the byte, and the string behind it
+-- the element that ends with the byte, and the string after the element
 emitted_here : (q v t c rest : List ℕ) (found : Option (List ℕ × List ℕ)) → Element q v → ((d r : List ℕ) → found ≡ Some (d, r) → Found [] t d r) → with_front v found ≡ Some (c, rest) → Found q t c rest
 emitted_here q v t c rest None h ih e = cc
 emitted_here q v t c rest (Some (d, r)) h ih e =
@@ -108,7 +108,7 @@ step_short : (b v : ℕ) → short_escape b ≡ Some v → step Escape b ≡ Emi
 unfolding step
 step_short b v h = grind (arith, nat_tests)
 
--- the value of all digits is at least that of the first ones
+-- the value of all digits is at least the value of the first digits
 pub read_up : (base : ℕ) (x : List ℕ) (behind : Bool) (n k : ℕ) → 1 ≤ base → read base behind n x ≡ Some k → n ≤ k
 unfolding read
 read_up base [] true n k b h = let e : n ≡ k = cc in omega arith

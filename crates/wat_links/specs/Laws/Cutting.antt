@@ -18,7 +18,7 @@ use Rattle.wat_links.specs.Laws.DylinkEntries.{export_entry_consumes, import_ent
 use Rattle.wat_links.specs.Subsections.{subsections}
 use Rattle.wat_links.specs.CutForm.{entries, CutSpells}
 
--- ---- what is in front
+-- ---- the next tokens
 
 group_more : (w : List ℕ) (t : List Tok) → begins_group w t ≡ true → more t ≡ true
 group_more w [] e = absurd cc
@@ -41,7 +41,7 @@ many_ends : {A : Type 0} (begins : List Tok → Bool) (g : Production A) (vs : L
 many_ends begins g [] c r s = s.1
 many_ends begins g (v ∷ vs) c r s = many_ends begins g vs s.1 r s.5
 
--- d, and then e in front of r
+-- d, then e, then r
 regroup : (d e r : List Tok) → (d ++ e) ++ r ≡ d ++ (e ++ r)
 regroup d e r = append_assoc d e r
 
@@ -98,7 +98,7 @@ module _ {A : Type 0} (f : A → EntryTy) (begins : List Tok → Bool) (g : Prod
       let w = subst (λ (u : List Tok). g.spells x s.0 u) e q.1 in
       (s.0 ++ p.0, p.1, whole, (λ k. (s.0, p.0, refl, b, w, p.3 k)), p.4)
 
-  -- a run in front of entries, and behind it nothing of its kind
+  -- a run before other entries, with no entry of the same kind directly after it
   run_in_front : (vs : List A) (d e r : List Tok) (es : List EntryTy)
       → begins (d ++ (e ++ r)) ≡ true → (run begins g consumes).spells vs d (e ++ r)
       → many_spells more entry es e r
@@ -107,7 +107,7 @@ module _ {A : Type 0} (f : A → EntryTy) (begins : List Tok → Bool) (g : Prod
       let all = run_is_many vs d (e ++ r) b s in
       (run_entries vs d e r es all p, many_ends begins g vs d (e ++ r) all)
 
-  -- all of its kind that are in front of others are a run
+  -- all entries of one kind, before other entries, are a run
   front_is_run : (x : A) (xs : List A) (c d e r : List Tok) → c ≡ d ++ e
       → many_spells begins g (x ∷ xs) d (e ++ r)
       → (more (c ++ r) ≡ true) × (begins (d ++ (e ++ r)) ≡ true)
@@ -150,7 +150,7 @@ import_is x d t (inr (b, inl s)) =
     )
 import_is x d t (inr (b, inr s)) = absurd (let h = s.1.3 in cc)
 
--- ---- what the first subsection tells of the tokens in front
+-- ---- what the first subsection implies for the next tokens
 
 export_no_import : (t : List Tok) → begins_export t ≡ true → begins_import t ≡ false
 export_no_import = no_other_group (codes "export-info") (codes "import-info") refl
@@ -209,7 +209,7 @@ starts_no_import s d t n (inr (b, inl p)) =
     absurd (subst (λ (u : SubsectionTy). NotImport u) (sym p.1.3) n)
 starts_no_import s d t n (inr (b, inr p)) = p.0
 
--- no entry is where the group ends
+-- no entry begins at the end of the group
 ends_no_group : (w : List ℕ) (t : List Tok) → more t ≡ false → begins_group w t ≡ false
 ends_no_group w t e =
     by_test (begins_group w t) (λ k. absurd (let m = group_more w t k in cc)) (λ k. k)
@@ -256,7 +256,7 @@ stops_import xs (s ∷ ss) c r a p = rw (whole ss s c r p) (starts_no_import s p
 abbrev all_entries : List SubsectionTy → List EntryTy
 all_entries ss = flat_map entries_in ss
 
--- a subsection, in front of others that are cut
+-- a subsection before other subsections that are cut
 abbrev IsFirst : List SubsectionTy → List Tok → List Tok → SubsectionTy → Type 0
 IsFirst ss c r s =
     many_spells more entry (entries_in s ++ all_entries ss) c r × IsFilled s × IsApart s ss

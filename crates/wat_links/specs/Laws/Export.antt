@@ -1,4 +1,4 @@
--- Laws: the name of an export within a field.
+-- Laws: the name of an inline export.
 use Rattle.std.specs.Prelude.{◌≤◌}
 use Rattle.std.proofs.Common.{lit≤}
 use Rattle.wat_links.specs.InlineName.{inline_name}

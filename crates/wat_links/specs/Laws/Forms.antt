@@ -1,4 +1,4 @@
--- Laws: the tokens in front tell the three forms of imports apart.
+-- Laws: the next tokens distinguish the three forms of imports.
 use Rattle.std.specs.Prelude.{◌≡◌, ℕ, true, false, List, [], ◌∷◌, ◌++◌, codes, Some, refl}
 use Rattle.std.specs.Str.{bytes_eq}
 use Rattle.std.proofs.Common.{subst, append_assoc, inl, inr}
@@ -13,7 +13,7 @@ use Rattle.wat_links.specs.Import.{typed, import_choice}
 use Rattle.wat_links.specs.ImportItem.{typed_item, named_item}
 use Rattle.wat_links.specs.ItemForms.{ItemsSpells}
 
--- ---- what is in front
+-- ---- the next tokens
 
 ends_there : (t : List Tok) → item_follows t ≡ false → typed t ≡ true → ends t ≡ true
 ends_there [] f e = refl

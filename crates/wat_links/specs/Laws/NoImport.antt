@@ -1,4 +1,4 @@
--- Laws: where no import in line begins, none is read.
+-- Laws: if the next tokens begin no inline import, no inline import is read.
 use Rattle.std.proofs.Common.{◌≡◌, ℕ, true, false, List, ◌∷◌, codes, Option, Some, None}
 use Rattle.std.specs.Str.{bytes_eq}
 use Rattle.wat_tokens.specs.Token.{Tok, LParen, RParen, Keyword, String}

@@ -1,4 +1,4 @@
--- Laws: words in strict order, and the table's.
+-- Laws: words in strict order, and the words of the table.
 use Rattle.std.proofs.Common.{◌≡◌, ℕ, suc, zero, ◌<◌, List, [], ◌∷◌, length, get_or, refl, sym, ◌∙◌}
 use Rattle.std.proofs.Common.{arith, IsTrue, inl, inr}
 use Rattle.std.specs.Cmp.{first_so, second_so}
@@ -44,7 +44,7 @@ own_reverse Greater e = cc
 pub self_equal : (x : List ℕ) → cmp x x ≡ Equal
 self_equal x = own_reverse (cmp x x) (nat_list_cmp_total.antisymm x x)
 
--- places of a strict order with one entry are one
+-- two indices of a strictly ascending list with the same entry are the same
 pub same_place : (xs : List (List ℕ)) (j k : ℕ) → IsTrue (rises xs) → j < length xs → k < length xs
     → get_or xs j [] ≡ get_or xs k [] → j ≡ k
 same_place xs j k h a b e =

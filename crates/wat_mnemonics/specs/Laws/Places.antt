@@ -1,4 +1,4 @@
--- Laws: where in the table each instruction is, by its row.
+-- Laws: the index of each instruction in the table, by its row.
 use Rattle.std.proofs.Common.{◌≡◌, ℕ, ◌<◌, [], length, get_or, refl, sym, ◌∙◌, ap, arith, IsTrue}
 use Rattle.std.proofs.Common.{lit<}
 use Rattle.std.proofs.lemmas.List.{get_or-map}
@@ -46,7 +46,7 @@ use Rattle.wat_mnemonics.specs.declared.vector.VectorOp.TheVariants as vector
 use Rattle.wat_mnemonics.specs.Places.{place, place_of_row}
 use Rattle.wat_mnemonics.specs.Laws.Order.{same_place}
 
--- the words rise strictly
+-- the words are in strictly ascending order
 pub words_rise : IsTrue (rises words)
 words_rise = refl
 
@@ -273,20 +273,20 @@ place_below (h.Lane x) = lane_below x
 place_below (h.Vector x) = vector_below x
 place_below _ = lit< tt
 
--- the word at a place is that of the instruction there
+-- the word at a place is the word of the instruction at that place
 pub entry_at : (k : ℕ) → k < 623 → get_or words k [] ≡ op_word (get_or all_ops k first)
 entry_at k l =
     get_or-map op_word all_ops k first [] (let e = table_length in omega arith)
 
--- two instructions at one place are one
+-- two instructions at the same place are the same
 pub one_place : (x y : Op) → place x ≡ place y → x ≡ y
 one_place x y e = sym (there x) ∙ ap (λ (k : ℕ). get_or all_ops k first) e ∙ there y
 
--- two instructions of one row are one
+-- two instructions with the same row are the same
 pub one_row : (x y : Op) → op_row x ≡ op_row y → x ≡ y
 one_row x y e = one_place x y (ap place_of_row e)
 
--- two instructions of one word are one
+-- two instructions with the same word are the same
 pub one_word : (x y : Op) → op_word x ≡ op_word y → x ≡ y
 one_word x y e =
     one_place x y (same_place words (place x) (place y) words_rise

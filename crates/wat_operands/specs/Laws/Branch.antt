@@ -1,4 +1,4 @@
--- Laws: how the labels of a `br_table` are split.
+-- Laws: the split of the indices of a `br_table`.
 use Rattle.std.specs.Prelude.{◌≡◌, List, [], ◌∷◌, ◌++◌, refl}
 use Rattle.std.proofs.Common.{ap, ◌∙◌, subst}
 use Rattle.wat_tokens.specs.Token.{Tok}

@@ -1,4 +1,4 @@
--- Laws: what a try_table catches.
+-- Laws: the catch clauses of a `try_table`.
 use Rattle.std.specs.Prelude.{◌≤◌}
 use Rattle.std.proofs.Common.{arith}
 use Rattle.wat_operands.specs.CatchClause.{catch_kind, catch_clause}

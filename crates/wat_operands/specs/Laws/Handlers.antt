@@ -1,4 +1,4 @@
--- Laws: tables of handlers.
+-- Laws: handler tables.
 use Rattle.std.specs.Prelude.{◌≤◌}
 use Rattle.std.proofs.Common.{arith}
 use Rattle.wat_operands.specs.Handler.{handler}

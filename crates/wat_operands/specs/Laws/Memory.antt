@@ -1,4 +1,4 @@
--- Laws: what an alignment spells.
+-- Laws: which tokens spell an alignment.
 use Rattle.std.specs.Prelude.{ℕ, List, refl}
 use Rattle.wat_tokens.specs.Token.{Tok}
 use Rattle.wat_operands.specs.Laws.Power.{power_of_two-holds, power_of_two-tested}

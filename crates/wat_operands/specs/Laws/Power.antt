@@ -1,4 +1,4 @@
--- Laws: powers of two, and the test of them.
+-- Laws: powers of two, and the test for a power of two.
 use Rattle.std.specs.Prelude.{◌≡◌, ℕ, zero, suc, ◌/◌, ◌%◌, ◌^◌, ◌≤◌, ◌==◌, true, false, count_ones}
 use Rattle.std.specs.Prelude.{refl}
 use Rattle.std.specs.Cmp.{unsigned_Decides}

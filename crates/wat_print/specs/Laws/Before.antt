@@ -1,4 +1,5 @@
--- Laws: the facts of each printing by a name for each: for crates whose printings aren't forms.
+-- Laws: the facts of each printing under names of their own. Crates whose printings aren't forms
+-- use these names.
 use Rattle.std.specs.Prelude.{◌≡◌, ℕ, Bool, true, false, List, [], ◌∷◌, ◌++◌, Option}
 use Rattle.std.specs.Prelude.{Some, codes}
 use Rattle.std.specs.Str.{bytes_eq}
@@ -46,13 +47,13 @@ use Rattle.wat_print.specs.Laws.Reference.{index_well_formed, heap_prints, ref_p
 use Rattle.wat_print.specs.Laws.Storage.{global_prints}
 use Rattle.wat_print.specs.Laws.Use.{use_prints, unnamed_use_prints}
 
--- a word, and what follows it
+-- a word, then a production
 pub after_here : {A : Type 0} (w : List ℕ) (g : Production A) (v : A) (d r : List Tok)
     → bytes_eq w w ≡ true → g.spells v d r → (after_word w g).spells v (Keyword w ∷ d) r
 after_here w g v d r e s =
     ((tt, v), (Keyword w ∷ [], d, refl, word_here w e (d ++ r), s), refl, refl)
 
--- an index in its parentheses behind a word
+-- an index after a word, in parentheses
 pub index_group_well_formed : (w : List ℕ) → is_keyword w ≡ true → (i : Idx)
     → printable_index i ≡ true → WellFormed (grouped w (spell_index i))
 index_group_well_formed w k i h = well_formed_group w (spell_index i) k (index_well_formed i h)
@@ -68,7 +69,7 @@ id_well_formed n h = id_prints.nests n h
 pub id_only : OnlyPrintable identifier is_name
 id_only = prints_only id_prints
 
--- in front of what begins neither an identifier nor a name
+-- before a rest that begins with neither an identifier nor a name
 pub label_here : (l : Label) (x : List Tok) → printable_label l ≡ true → begins_id x ≡ false
     → begins_name x ≡ false → label.spells l (spell_label l) x
 label_here l x f a b = label_prints.here l x f (rw (a, b) refl)
@@ -93,7 +94,7 @@ ref_well_formed t f = ref_prints.nests t f
 pub ref_only : OnlyPrintable ref_type printable_ref
 ref_only = prints_only ref_prints
 
--- what the test says of a reference type in front
+-- the result of the test on tokens that begin with a reference type
 abbrev pub OfRefs : (List Tok → Bool) → Bool → Type 0
 OfRefs test b = (n : Bool) (h : HeapTy) (x : List Tok) → test (spell_reference n h ++ x) ≡ b
 
@@ -129,7 +130,7 @@ val_no_name _ x = refl
 
 -- ---- uses of function types
 
--- what may follow a type use without taking part in it
+-- a rest whose first tokens don't continue a type use
 abbrev pub EndsUse : List Tok → Type 0
 EndsUse r = (type_follows r ≡ false) × (begins_func r ≡ false) × (group_follows r ≡ false)
 
@@ -173,7 +174,7 @@ page_well_formed k h = page_prints.nests (Some k) h
 pub page_only : OnlyPrintable pagesize_or_none (if_some is_exponent)
 page_only = prints_only page_prints
 
--- what may follow a memory type without taking part in it
+-- a rest whose first tokens don't continue a memory type
 abbrev pub EndsMemory : List Tok → Type 0
 EndsMemory r =
     (begins_integer r ≡ false) × (begins_word (codes "shared") r ≡ false)
@@ -204,7 +205,7 @@ table_type_only = prints_only table_prints
 
 -- ---- global types
 
--- what may follow a global type without taking part in it
+-- a rest whose first tokens don't continue a global type
 abbrev pub EndsGlobal : List Tok → Type 0
 EndsGlobal r =
     (begins_word (codes "shared") r ≡ false) × (begins_word (codes "mut") r ≡ false)
@@ -232,7 +233,7 @@ type_well_formed t f = type_prints.nests t f
 pub type_only : OnlyPrintable type_ printable_type
 type_only = prints_only type_prints
 
--- where the second token that follows isn't `type`
+-- if the second token of the rest isn't `type`
 pub rec_here : (ts : List TypeTy) (r : List Tok) → printable_rec ts ≡ true
     → second begins_type r ≡ false
     → rec.spells ts (spell_rec ts) r

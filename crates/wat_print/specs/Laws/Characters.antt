@@ -16,7 +16,7 @@ use Rattle.wat_print.specs.Text.{Page, escape, quoted_as, quoted}
 
 -- ---- one character
 
--- a byte past ASCII stays as it is
+-- a non-ASCII byte stays as it is
 past_ascii : (b : ℕ) → 128 ≤ b → escape true b ≡ b ∷ []
 past_ascii b h = let r : is_raw b ≡ true = grind (arith, nat_tests) in rw r refl
 
@@ -31,7 +31,7 @@ past_4 : (a b c d : ℕ) → 128 ≤ a → 128 ≤ b → 128 ≤ c → 128 ≤ d
     → flat_map (escape true) (a ∷ b ∷ c ∷ d ∷ []) ≡ a ∷ b ∷ c ∷ d ∷ []
 past_4 a b c d h k l m = rw (past_ascii a h, past_3 b c d k l m) refl
 
--- a character past ASCII stays whole
+-- a non-ASCII character stays as it is
 pub character_whole : (c : ℕ) → is_ascii c ≡ false
     → flat_map (escape true) (encode_utf8 c) ≡ encode_utf8 c
 unfolding encode
@@ -46,7 +46,7 @@ character_whole c h =
     (λ g. (past_4 (240 + c / 262144) (128 + c / 4096 % 64) (128 + c / 64 % 64) (128 + c % 64)
     (omega arith) (omega arith) (omega arith) (omega arith)))))))
 
--- a character of ASCII is written as in a string that isn't UTF-8
+-- an ASCII character is written as in a string that isn't UTF-8
 pub character_ascii : (c : ℕ) → is_ascii c ≡ true
     → flat_map (escape true) (encode_utf8 c) ≡ escape false c
 character_ascii c h =
@@ -58,7 +58,7 @@ pub ruleset character_written = (character_ascii, character_whole)
 
 -- ---- a text
 
--- one character more
+-- one more character
 characters_more : (ys : List ℕ) (c : ℕ)
     → flat_map (escape true) (encode_utf8_all (ys ++ c ∷ []))
     ≡ flat_map (escape true) (encode_utf8_all ys) ++ flat_map (escape true) (encode_utf8 c)
@@ -81,7 +81,7 @@ text_quoted s u = rw (is_utf8-from_IsUtf8 s u) (quoted_flat true s)
 
 -- ---- a text on a page
 
--- the page, and behind it characters in a string
+-- the page with the characters of a string appended
 abbrev pub with_characters : Page → List ℕ → Page
 with_characters p cs =
     record p { bytes = p.bytes ++ flat_map (escape true) (encode_utf8_all cs) }
@@ -100,7 +100,7 @@ all_given : (s cs : List ℕ) → IsUtf8 s → map (λ c. c) cs ≡ chars s → 
 all_given s cs u e =
     ap (λ (x : List ℕ). encode_utf8_all x) (sym (map-id cs) ∙ e) ∙ encodes-chars s u
 
--- the closing quote behind all characters of a text
+-- the closing quote after all characters of a text
 pub page_closed : (start p q : Page) (s cs : List ℕ) → IsUtf8 s → map (λ c. c) cs ≡ chars s
     → p ≡ with_characters start cs → q ≡ record p { bytes = p.bytes ++ 34 ∷ [] }
     → q ≡ record start { bytes = start.bytes ++ quoted s }
@@ -114,6 +114,6 @@ page_closed start p q s cs u all e f =
 
 -- ---- bytes
 
--- bytes that are no text
+-- bytes that aren't UTF-8
 pub no_text : (s : List ℕ) → ¬ (IsUtf8 s) → is_utf8 s ≡ false
 no_text s not = by_test (is_utf8 s) (λ e. absurd (not (IsUtf8-from_is_utf8 s e))) (λ e. e)

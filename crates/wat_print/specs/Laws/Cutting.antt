@@ -1,4 +1,4 @@
--- Laws: the text of tokens is cut into them.
+-- Laws: the text of tokens is cut into these tokens.
 use Rattle.std.specs.Prelude.{◌≡◌, ℕ, zero, suc, ◌-◌, Bool, true, false, not, ◌&&◌, ◌||◌, ◌==◌}
 use Rattle.std.specs.Prelude.{List, [], ◌∷◌, ◌++◌, length}
 use Rattle.std.proofs.Common.{refl, ap, subst, sym, ◌∙◌, arith, append_assoc, append-nil}
@@ -17,8 +17,8 @@ use Rattle.wat_print.specs.Laws.Quoted.{quoted_is, idchars_are, idchars_run, str
 
 -- ---- the text from the left
 
--- pieces, each behind what stands in front of it; the flags say whether lines may be broken, and
--- whether no blank is wanted
+-- The text of the pieces in order. The flags: whether lines may be broken, and whether the first
+-- piece follows without a blank.
 abbrev pub laid : Bool → Bool → List LayoutPart → List ℕ
 laid lines tight [] = []
 laid lines tight (one t ∷ r) = gap tight t ++ (token_text t ++ laid lines (is_open t) r)
@@ -51,7 +51,7 @@ abbrev pub AllPrintable : Bool → List Tok → Type 0
 AllPrintable behind [] = Unit {0}
 AllPrintable behind (t ∷ r) = Printable behind t × AllPrintable (is_open t) r
 
--- behind a token that isn't `(`
+-- after a token other than `(`
 run_ends : (lines : Bool) (r : List LayoutPart) → Begins in_no_run (laid lines false r)
 run_ends lines [] = tt
 run_ends true (line n ∷ r) = refl
@@ -59,7 +59,7 @@ run_ends false (line n ∷ r) = run_ends false r
 run_ends lines (one RParen ∷ r) = refl
 run_ends lines (one _ ∷ r) = refl
 
--- the first byte is no `;`
+-- the first byte isn't `;`
 abbrev pub no_semicolon : List ℕ → Type 0
 no_semicolon x = Begins (λ b. not (b == 59)) x
 
@@ -94,7 +94,7 @@ printable_plain behind (Integer k) r h = integer_plain k r h
 printable_plain behind (String s) r h = refl
 printable_plain behind (Reserved k) r h = absurd cc
 
--- behind `(`
+-- after `(`
 open_ends : (lines : Bool) (r : List LayoutPart) → AllPrintable true (tokens_in r)
     → no_semicolon (laid lines true r)
 open_ends lines [] h = tt
@@ -166,7 +166,7 @@ cut_blanks : (n k : ℕ) (x : List ℕ) (us : List Tok) → CutInto n false x us
 cut_blanks n zero x us c = c
 cut_blanks n (suc k) x us c = cut_space n 32 false (blanks k ++ x) us refl (cut_blanks n k x us c)
 
--- a space, where one is wanted
+-- the space before a token, if a space is needed
 cut_gap : (n : ℕ) (behind tight : Bool) (t : Tok) (y : List ℕ) (us : List Tok)
     → (behind ≡ true → tight ≡ true) → CutInto n behind y us
     → CutInto n behind (gap tight t ++ y) us

@@ -26,7 +26,7 @@ use Rattle.wat_print.specs.Laws.Reference.{index_prints}
 use Rattle.wat_print.specs.Laws.Storage.{field_prints}
 use Rattle.wat_print.specs.Laws.Struct.{struct_prints}
 
--- ---- what is defined
+-- ---- kinds
 
 pub kind_prints : Prints kind_form kind
 unfolding kind

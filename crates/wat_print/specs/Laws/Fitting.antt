@@ -1,4 +1,4 @@
--- Laws: what a text is known to be can be written.
+-- Laws: names that are UTF-8 and not empty can be written.
 use Rattle.std.specs.Prelude.{◌≡◌, ℕ, true, false, ◌==◌, List, [], ◌∷◌, length}
 use Rattle.std.specs.Str.{IsUtf8}
 use Rattle.std.proofs.lemmas.Str.{is_utf8-from_IsUtf8}

@@ -1,4 +1,4 @@
--- Laws: what a form writes is read again, part by part.
+-- Laws: the tokens that a form writes are read again, part by part.
 use Rattle.std.specs.Prelude.{◌≡◌, ◌≤◌, ℕ, Bool, true, false, not, ◌&&◌, List, [], ◌∷◌, ◌++◌}
 use Rattle.std.specs.Prelude.{Option, Some, None, flat_map, map, ◌⊎◌, ◌||◌}
 use Rattle.std.specs.Str.{bytes_eq}
@@ -86,13 +86,13 @@ closes_turn x c = (
       (well_formed.group c.0 c.1 c.3 c.4),
 )
 
--- ---- what is in front
+-- ---- tests of the first tokens
 
 passes_of : (e : Bool) (test : Test) (r : List Tok) → test r ≡ true → Passes e test r
 passes_of true test r h = h
 passes_of false test r h = tt
 
--- what a part that isn't empty has in front
+-- the facts of `Must`: F holds, and the part writes a token
 must_pass : {P : Type 0} (e : Bool) (test : Test) (r : List Tok) (F : Type 0) → Must e F
     → (F → Passes e test r → P) → P
 must_pass true test r F m f = absurd m
@@ -187,7 +187,7 @@ module _ {A B C D : Type 0} {form : Form A} {other : Form B} {view : A → C} {a
         (λ f e. p.front behind test f v.0 (other.spell v.1 ++ r) a.0 (passes v.1 r a.1) e)
         (λ f e. q.front rest test f v.1 r a.1 i e) f e)
 
-    -- in front of what the second part writes the first one is read
+    -- the first part is read before the tokens of the second part
     both_here : other.Fronts any form.follows → (v : A × B) (r : List Tok)
         → form.ready v.0 && other.ready v.1 ≡ true
         → seq_follows other.empty form.follows other.follows r ≡ true
@@ -307,7 +307,7 @@ module _ {A B : Type 0} {form : Form A} {view : A → B} {g : Production B}
     (p : Unparses form view g) (spell : A → List Tok)
     (same : (a : A) → form.ready a ≡ true → form.spell a ≡ spell a)
   where
-    -- the same tokens, written in another way
+    -- the same tokens from another function
     pub respelled : Unparses (record form { spell = spell }) view g
     respelled = record {
       nests = λ a h. subst (λ (c : List Tok). Nests form.balanced c) (same a h) (p.nests a h);
@@ -321,7 +321,7 @@ module _ {A B : Type 0} {form : Form A} {view : A → B} {g : Production B}
 module _ {A B : Type 0} {form : Form A} {view : A → B} {g : Production B}
     (p : Unparses form view g)
   where
-    -- a value made of parts that meet a condition
+    -- a value made of parts that pass a condition
     pub where_prints : {C : Type 0} (ok : B → Bool) (f : B → C)
         → ((a : A) → form.ready a ≡ true → ok (view a) ≡ true)
         → Unparses form (λ a. f (view a)) (made_where ok f g)
@@ -394,8 +394,8 @@ module _ {A B C : Type 0} {form : Form A} {other : Form B} {view : A → C} {als
     else_only w c r a (inl k) = let x = p.only w c r a k.1 in (inl x.0, x.1, x.2)
     else_only w c r a (inr k) = let x = q.only w c r a k.1 in (inr x.0, x.1, x.2)
 
-    -- the test passes of what the first writes, and of nothing that the second writes in front of
-    -- such a rest
+    -- the test passes on the tokens of the first part, and fails on the tokens of the second part,
+    -- before each rest that passes `rest`
     pub told_prints : ((a : A) (r : List Tok) → form.ready a ≡ true → rest r ≡ true
         → test (form.spell a ++ r) ≡ true)
         → other.Fronts rest (λ t. not (test t))
@@ -541,7 +541,7 @@ module _ {A B : Type 0} {form : Form A} {view : A → B} {g : Production B} (beg
         let y = many_only ws s.1 r k.1 s.5 in
         (x.0 ∷ y.0, rw (x.1, y.1) refl, rw (x.2) (y.2))
 
-    -- a part is told from what may follow, further parts too
+    -- the test distinguishes a part from the tokens that may follow: more parts, or the rest
     pub many_seen : (consumes : 1 ≤ g.least) → Must form.empty (form.Fronts any begins)
         → Must form.empty (form.Fronts any form.follows)
         → Unparses (many_form begins form) (map view) (many begins g consumes)
@@ -610,7 +610,7 @@ module _ {A B : Type 0} {form : Form A} {view : A → B} {g : Production B}
           p.only b s.0 (RParen ∷ r) k.0 s.2);
     }
 
-    -- the word, and then
+    -- word, then the form
     after_only : (w : List ℕ) (b : B) (c r : List Tok) → each is_given c ≡ true
         → (after_word w g).spells b c r → (a : A) × (view a ≡ b) × (form.printable a ≡ true)
     after_only w b c r a s =
@@ -656,7 +656,7 @@ turn_prints = record {
   only = λ v c r a s. (tt, refl, refl);
 }
 
--- ---- what the first part decides
+-- ---- a second part that depends on the first
 
 module _ {A A' B : Type 0} {C : A → Type 0} {form : Form A} {view : A → A'} {g : Production A'}
     (h : A' → Production B) (ends : Test) (p : Unparses form view g) (q : (a : A) → Form (C a))

@@ -1,4 +1,4 @@
--- Laws: the tokens that a text gives.
+-- Laws: the tokens of a text.
 use Rattle.std.specs.Prelude.{◌≡◌, ℕ, zero, suc, ◌+◌, ◌*◌, ◌<◌, ◌==◌, slice_index, Bool}
 use Rattle.std.specs.Prelude.{true, false, List, [], ◌∷◌, ◌++◌, Option, Some, None, length}
 use Rattle.std.specs.Char.{digit_value}
@@ -122,7 +122,7 @@ visible_given known (Some depth) (t ∷ ts) a =
     (λ e. visible_given known None ts p.1)
     (λ e. visible_given known (Some (deeper t depth)) ts p.1)
 
--- each token of a text can be given
+-- each visible token of a text passes `is_given`
 pub text_given : (x : List ℕ) (ps : List Placed) (known : Bool) → IsUtf8 x → IsCut x ps
     → each is_given (visible_tokens known (tokens_of ps)) ≡ true
 unfolding visible_tokens

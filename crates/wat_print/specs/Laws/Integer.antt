@@ -1,4 +1,4 @@
--- Laws: integers are written as they are read.
+-- Laws: integers are written with the text that was read.
 use Rattle.std.specs.Prelude.{◌≡◌, ℕ, ◌+◌, ◌*◌, ◌<◌, ◌≤◌, Bool, true, false, ◌&&◌, ◌||◌, ◌==◌}
 use Rattle.std.specs.Prelude.{nat_lt, List, [], ◌∷◌, drop, Option, Some, is_some}
 use Rattle.std.specs.Char.{digit_value}
@@ -16,7 +16,7 @@ use Rattle.wat_print.specs.Text.{all_are}
 use Rattle.wat_print.specs.Laws.Only.{OnlyPrintable, only_one}
 use Rattle.wat_print.specs.Laws.Parts.{Spells, well_formed_one}
 
--- ---- an integer has idchars alone
+-- ---- the bytes of an integer are idchars
 
 digit_idchar : (c : ℕ) → digit_value c < 36 → is_idchar c ≡ true
 digit_idchar c h = grind (arith, nat_tests)
@@ -76,7 +76,7 @@ sign_front (c ∷ t) =
 integer_idchars : (x : List ℕ) → is_integer x ≡ true → all_are is_idchar x ≡ true
 integer_idchars x e = sign_front x (magnitude_idchars (without_sign x) e)
 
--- ---- what is written of it
+-- ---- the written tokens
 
 pub integer_here : (x : List ℕ) → Spells integer x (spell_integer x)
 integer_here x r = (Integer x, refl, refl)

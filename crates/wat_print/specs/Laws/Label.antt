@@ -1,4 +1,4 @@
--- Laws: labels, and lists of parts that may have one, are read again.
+-- Laws: labels, and lists of parts with optional labels, are read again.
 use Rattle.std.specs.Prelude.{◌≡◌, ℕ, Bool, true, false, not, ◌&&◌, ◌||◌, List, [], ◌∷◌, ◌++◌}
 use Rattle.std.specs.Prelude.{Option, Some, None, codes, flat_map, map, slice_index, ◌<◌, ◌⊎◌, ◌≤◌}
 use Rattle.std.specs.Str.{is_utf8}
@@ -63,7 +63,7 @@ name_well_formed n h =
     noted (codes "name") (String n ∷ []) [] name_printable refl
     (well_formed_one (String n) (utf8_bytes n (IsUtf8-from_is_utf8 n h))) nothing
 
--- ---- parts that may have one
+-- ---- parts with optional labels
 
 pub labelled_front : (i n : Option (List ℕ)) (x : List Tok) → labelled (label_of i n) ≡ true
     → begins_label (label_form.spell (label_of i n) ++ x) ≡ true
@@ -77,7 +77,7 @@ unlabelled_is None None h = refl
 unlabelled_is (Some i) n h = absurd cc
 unlabelled_is None (Some n) h = absurd cc
 
--- ---- what a text spells can be written
+-- ---- labels that a text spells can be written
 
 id_given : (t : Tok) (n : List ℕ) → is_given t ≡ true → as_id t ≡ Some n → is_name n ≡ true
 id_given (Id m) n a e =
@@ -117,7 +117,7 @@ or_right : (a b : Bool) → b ≡ true → a || b ≡ true
 or_right true b h = refl
 or_right false b h = h
 
--- a value with a label makes a part, and a part gives them back
+-- parts correspond to pairs of a label and a value
 module _ {T P : Type 0} {value : Form T} {g : Production T} (p : Prints value g)
     (sure : (v : T) → value.printable v ≡ true → value.ready v ≡ true) (consumes : 1 ≤ g.least)
     (more_front : Must value.empty (value.Fronts any more))
@@ -267,7 +267,7 @@ module _ {T P : Type 0} {value : Form T} {g : Production T} (p : Prints value g)
         (may_share value label_in value_in) listed_is listed_ready listed_covers)
         (flat_map spell_part) listed_spelled
 
-    -- ---- their groups
+    -- ---- groups of parts
 
     all_alone : (xs : List P) → each printable_part xs ≡ true
         → each (may_share value label_in value_in) (map by_itself xs) ≡ true
@@ -298,7 +298,7 @@ module _ {T P : Type 0} {value : Form T} {g : Production T} (p : Prints value g)
         (and_parts (at_most_one value label_in value_in g || none_labelled label_in g) _ a.0).1
         (groups_cover gs a.1)
 
-    -- they are read again; and so are their groups, which hold what can be written
+    -- parts in one group are read again; groups of printable parts can be written
     pub listed : Prints (listed_form value label_in value_in) parts
         × ((xs : List P) → each printable_part xs ≡ true
         → each (may_share value label_in value_in) (in_groups label_in xs) ≡ true)
@@ -306,7 +306,7 @@ module _ {T P : Type 0} {value : Form T} {g : Production T} (p : Prints value g)
         → each printable_part (all_of gs) ≡ true)
     listed = (listed_prints, groups_ready, groups_cover)
 
--- the groups' parts are all parts
+-- groups of one part each contain all parts
 alone_all : {P : Type 0} (ps : List P) → all_of (map by_itself ps) ≡ ps
 alone_all [] = refl
 alone_all {P = P} (p ∷ ps) = ap (λ (l : List P). p ∷ l) (alone_all ps)

@@ -1,5 +1,5 @@
--- Laws: tokens that can be written. Each stands where it may, their annotations' groups are closed,
--- and all are visible where the standard annotations are known.
+-- Laws of well-formed tokens: each token is at an allowed position, the groups of annotations are
+-- closed, and all tokens are visible if the standard annotations are known.
 use Rattle.std.specs.Prelude.{◌≡◌, ℕ, zero, suc, ◌+◌, ◌-◌, Bool, true, false, List, [], ◌∷◌, ◌++◌}
 use Rattle.std.specs.Prelude.{length, Some, None}
 use Rattle.std.proofs.Common.{refl, ap, subst, sym, ◌∙◌, arith, append_assoc, append-nil}
@@ -13,7 +13,7 @@ use Rattle.wat_print.specs.Layout.{Writes}
 use Rattle.wat_print.specs.Text.{Page, blank_page}
 use Rattle.wat_print.specs.Laws.Cutting.{Printable, AllPrintable, page_cuts}
 
--- ---- each stands where it may
+-- ---- each token is at an allowed position
 
 -- a token that isn't a parenthesis or an annotation
 not_open : (t : Tok) → is_printable t ≡ true → is_open t ≡ false
@@ -30,7 +30,7 @@ fits behind (Integer k) h = h
 fits behind (String k) h = h
 fits behind (Reserved k) h = h
 
--- what may stand behind anything may stand behind `(`
+-- a token that may follow any token may follow `(`
 printable_more : (behind : Bool) (t : Tok) → Printable false t → Printable behind t
 printable_more behind LParen h = tt
 printable_more behind RParen h = tt
@@ -112,7 +112,7 @@ well_formed_deep ts s depth (noted k a r h e n m) =
     ∙ well_formed_deep a (RParen ∷ (r ++ s)) (depth + 1) n ∙ shut_deep depth (r ++ s)
     ∙ well_formed_deep r s depth m
 
--- an annotation in front stands in a group that is closed
+-- if the tokens begin with `(` and an annotation, their group is closed
 abbrev pub ShutHere : List Tok → Type 0
 ShutHere (LParen ∷ Annotation n ∷ r) = behind_group 0 r ≡ None → ⊥
 ShutHere _ = Unit {0}
@@ -159,7 +159,7 @@ well_formed_shut ts s (noted k a r h e n m) f =
       (tt, well_formed_shut a (RParen ∷ (r ++ s)) n inner),
     )
 
--- ---- all are visible
+-- ---- all tokens are visible
 
 plain_seen : (t : Tok) (r : List Tok) → is_printable t ≡ true
     → visible true None (t ∷ r) ≡ t ∷ visible true None r
@@ -233,7 +233,7 @@ well_formed_closed ts n =
     all_closed ts
     (subst (λ (l : List Tok). AllShut l) (append-nil ts) (well_formed_shut ts [] n tt))
 
--- what is laid out of such tokens is cut into them
+-- each layout of well-formed tokens is cut into these tokens
 pub well_formed_cut : (ts : List Tok) (lines : Bool) (q : Page) → WellFormed ts
     → Writes ts (blank_page lines) q
     → (ps : List Placed) × IsCut q.bytes ps × (tokens_of ps ≡ ts)

@@ -1,4 +1,4 @@
--- Laws: what is written of a number reads as it.
+-- Laws: the digits that are written for a number read as this number.
 use Rattle.std.specs.Prelude.{◌≡◌, ℕ, ◌+◌, ◌*◌, ◌^◌, ◌-◌, ◌<◌, ◌≤◌, true, false, ◌==◌, nat_lt}
 use Rattle.std.specs.Prelude.{nat_le, List, [], ◌∷◌, Option, Some, None, decimal}
 use Rattle.std.specs.Char.{digit_value}
@@ -77,7 +77,7 @@ unsigned_decimal bits n lt le =
     let e : nat_le n (2 ^ bits - 1) ≡ true = grind (arith, nat_tests) in
     rw (s.0, s.1, magnitude_decimal n lt, e) refl
 
--- ---- a number that a text gives
+-- ---- numbers in texts
 
 up_to_fits : (limit n : ℕ) (o : Option ℕ) → up_to limit o ≡ Some n → n ≤ limit
 up_to_fits limit n None e = absurd cc
@@ -93,7 +93,7 @@ sign_fits None bits n o e = up_to_fits (2 ^ bits - 1) n o e
 sign_fits (Some Plus) bits n o e = up_to_fits (2 ^ bits - 1) n o e
 sign_fits (Some Minus) bits n o e = absurd cc
 
--- a number that is read in so many bits has them
+-- a number that is read as a number of n bits fits in n bits
 pub unsigned_fits : (bits : ℕ) (x : List ℕ) (n : ℕ) → unsigned_value bits x ≡ Some n
     → n ≤ 2 ^ bits - 1
 unsigned_fits bits x n e = sign_fits (sign_of x) bits n (magnitude (without_sign x)) e

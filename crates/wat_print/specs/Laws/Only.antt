@@ -1,4 +1,4 @@
--- Laws: what tokens that a text can give spell can be written, part by part.
+-- Laws: values that tokens of a text spell can be written, part by part.
 use Rattle.std.specs.Prelude.{◌≡◌, ◌≤◌, ℕ, Bool, true, ◌&&◌, List, [], ◌∷◌, ◌++◌, Option, Some}
 use Rattle.std.specs.Prelude.{None}
 use Rattle.std.specs.Str.{bytes_eq}
@@ -16,7 +16,7 @@ use Rattle.wat_print.specs.WellFormed.{is_given}
 use Rattle.wat_print.specs.Parts.{each, if_some}
 use Rattle.wat_print.specs.Laws.Parts.{each_front}
 
--- each value that tokens of a text spell passes the test
+-- each value that tokens of a text spell passes the test `printable`
 pub record OnlyPrintable {A : Type 0} (g : Production A) (printable : A → Bool) : Type 0 where
   pub holds : (v : A) (c r : List Tok) → each is_given c ≡ true → g.spells v c r
       → printable v ≡ true
@@ -26,7 +26,8 @@ pub given_parts : (c d e : List Tok) → c ≡ d ++ e → each is_given c ≡ tr
 given_parts c d e s a =
     each_front is_given d e (subst (λ (l : List Tok). each is_given l ≡ true) s a)
 
--- what a `(` opens, in three parts: up to a place, up to its `)`, and behind it
+-- the tokens after a `(`, in three parts: the first tokens of its group, the further tokens of its
+-- group, and the tokens after its `)`
 pub given_group : (f y x : List Tok) → each is_given (LParen ∷ (f ++ (y ++ (RParen ∷ x)))) ≡ true
     → (each is_given f ≡ true) × (each is_given y ≡ true) × (each is_given x ≡ true)
 given_group f y x g =
@@ -34,7 +35,7 @@ given_group f y x g =
     let b = each_front is_given y (RParen ∷ x) a.1 in
     (a.0, b.0, b.1)
 
--- a value that a word of a table names
+-- the value of a word in a table
 look_up_printable : {A : Type 0} (printable : A → Bool) (table : List (List ℕ × A)) (w : List ℕ)
     (v : A) → each (λ e. printable e.1) table ≡ true → look_up table w ≡ Some v
     → printable v ≡ true
@@ -66,7 +67,7 @@ only_one value_of flat printable h =
           h s.0 v (and_parts (is_given s.0) true k).0 s.2);
     }
 
--- a keyword of a table, each of whose values can be written
+-- a keyword of a table, if each value of the table can be written
 pub only_word_in : {A : Type 0} (table : List (List ℕ × A)) (printable : A → Bool)
     → each (λ e. printable e.1) table ≡ true
     → OnlyPrintable (one (word_in table) (refl, refl)) printable

@@ -1,4 +1,4 @@
--- Laws: parts of productions are spelled by what is written of them.
+-- Laws: the tokens that are written for parts of productions spell these parts.
 use Rattle.std.specs.Prelude.{◌≡◌, ℕ, Bool, true, false, ◌&&◌, List, [], ◌∷◌, ◌++◌, Option, Some}
 use Rattle.std.specs.Prelude.{None, flat_map}
 use Rattle.std.specs.Str.{bytes_eq}
@@ -17,7 +17,7 @@ use Rattle.wat_print.specs.WellFormed.{is_printable, is_keyword, WellFormed, not
 use Rattle.wat_print.specs.WellFormed as well_formed
 use Rattle.wat_print.specs.Parts.{grouped, spell_flag, spell_option, if_some, each}
 
--- in front of any rest the tokens spell the value
+-- the tokens spell the value before any rest
 abbrev pub Spells : {A : Type 0} → Production A → A → List Tok → Type 0
 Spells g v c = (r : List Tok) → g.spells v c r
 
@@ -48,7 +48,7 @@ pub flag_here : (w : List ℕ) (b : Bool) (r : List Tok) → bytes_eq w w ≡ tr
 flag_here w true r e f = (Some tt, (e, word_here w e r), refl, refl)
 flag_here w false r e f = (None, (refl, f), refl, refl)
 
--- parts, each of which is told from what may follow: further parts, or the rest
+-- parts whose first tokens a test distinguishes from the tokens that may follow: more parts, a rest
 module _ {A : Type 0} (begins ends : List Tok → Bool) (g : Production A) (spell : A → List Tok)
     (ok : A → Bool)
     (here : (v : A) (r : List Tok) → ok v ≡ true → ends r ≡ true → g.spells v (spell v) r)
@@ -78,7 +78,7 @@ module _ {A : Type 0} (begins ends : List Tok → Bool) (g : Production A) (spel
           many_told vs r p.1 e f,
         )
 
--- parts that spell their values in front of anything
+-- parts whose tokens spell their values before any rest
 pub many_here : {A : Type 0} (begins : List Tok → Bool) (g : Production A) (spell : A → List Tok)
     (ok : A → Bool) → ((v : A) → ok v ≡ true → Spells g v (spell v))
     → ((v : A) (x : List Tok) → ok v ≡ true → begins (spell v ++ x) ≡ true) → (vs : List A)
@@ -87,7 +87,7 @@ pub many_here : {A : Type 0} (begins : List Tok → Bool) (g : Production A) (sp
 many_here begins g spell ok s b vs r o f =
     many_told begins (λ _. true) g spell ok (λ v x k e. s v k x) b (λ v x k. refl) vs r o refl f
 
--- a part that is there, or that what follows doesn't begin
+-- a part that is present, or a rest that doesn't begin a part
 pub option_here : {A : Type 0} (begins : List Tok → Bool) (g : Production A) (spell : A → List Tok)
     (o : Option A) (r : List Tok) → ((v : A) → o ≡ Some v → begins (spell v ++ r) ≡ true)
     → ((v : A) → o ≡ Some v → g.spells v (spell v) r) → (o ≡ None → begins r ≡ false)
@@ -157,7 +157,7 @@ each_front test (v ∷ vs) ws f =
     let b = each_front test vs ws a.1 in
     (rw (a.0) (b.0), b.1)
 
--- the test passes of each part of each group
+-- each part of each group passes the test
 pub each_all : {A : Type 0} (test : A → Bool) (gs : List (List A))
     → each (λ g. each test g) gs ≡ true
     → each test (all_of gs) ≡ true

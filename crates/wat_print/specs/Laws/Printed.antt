@@ -1,4 +1,4 @@
--- Laws: what printing promises, of what was written.
+-- Laws: from written tokens to the facts about printing.
 use Rattle.std.specs.Prelude.{◌≡◌, ℕ, Bool, true, false, List, []}
 use Rattle.std.proofs.Common.{ap, subst, sym, ◌∙◌}
 use Rattle.wat_lexer.specs.Cut.{IsCut}
@@ -17,7 +17,7 @@ use Rattle.wat_print.specs.Laws.Given.{text_given, part_given}
 use Rattle.wat_print.specs.Laws.Nesting.{well_formed_cut, well_formed_visible}
 use Rattle.wat_print.specs.Laws.Written.{put_puts}
 
--- the text of what was written on a new page
+-- the one-line text of tokens that were written on a new page
 pub on_one_line : (layout : Layout) (ts : List Tok) (p q : Page) (x : List ℕ) → layout ≡ Line
     → p ≡ blank_page (may_break layout) → Writes ts p q → x ≡ q.bytes → x ≡ printed_text ts
 on_one_line layout ts p q x l e w b =
@@ -26,7 +26,7 @@ on_one_line layout ts p q x l e w b =
     b ∙ ap (λ (k : Page). k.bytes) (put_puts ts p q whole w)
     ∙ ap (λ (k : Page). (put k ts).bytes) start
 
--- it is cut into these tokens
+-- the text is cut into these tokens
 pub cut_back : (ts : List Tok) (lines : Bool) (p q : Page) (x : List ℕ) → WellFormed ts
     → p ≡ blank_page lines → Writes ts p q → x ≡ q.bytes
     → (ps : List Placed) × IsCut x ps × (tokens_of ps ≡ ts)
@@ -44,7 +44,7 @@ module _ {A : Type 0} (g : Production A) (v : A) where
       ap (λ (l : List Tok). visible_tokens true l) c.2 ∙ well_formed_visible ts n in
       (c.0, c.1, subst (λ (l : List Tok). g.spells v l []) (sym seen) s)
 
-  -- where what a text spells can be written, and the value can't be, no text spells it
+  -- if every value that a text spells is printable, no text spells a value that isn't printable
   pub unspelled : (printable : Bool) → printable ≡ false
       → ((c r : List Tok) → each is_given c ≡ true → g.spells v c r → printable ≡ true)
       → NoneSpells g v

@@ -1,4 +1,4 @@
--- Laws: what is written of a string or a name is one.
+-- Laws: the text that is written for a string or a name is a string or a name.
 use Rattle.std.specs.Prelude.{◌≡◌, ℕ, ◌+◌, ◌*◌, ◌/◌, ◌%◌, ◌<◌, Bool, true, false, ◌&&◌, ◌||◌}
 use Rattle.std.specs.Prelude.{if◌then◌else◌, nat_lt, List, [], ◌∷◌, ◌++◌, length, ◌⊎◌}
 use Rattle.std.specs.Char.{digit_char, digit_value}

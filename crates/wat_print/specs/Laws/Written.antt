@@ -1,4 +1,4 @@
--- Laws: tokens that are written one behind the other.
+-- Laws: tokens that are written one after the other.
 use Rattle.std.specs.Prelude.{◌≡◌, ℕ, zero, suc, ◌+◌, ◌*◌, ◌-◌, ◌<◌, Bool, true, not, ◌&&◌, List}
 use Rattle.std.specs.Prelude.{[], ◌∷◌, ◌++◌, length, map, flat_map, take, false, ◌==◌}
 use Rattle.std.proofs.Common.{refl, ap, subst, sym, ◌∙◌, append_assoc, append-nil, get_or, arith}
@@ -36,7 +36,7 @@ unbroken n p h =
     cond_both (p.lines && not p.tight) _ p (λ (q : Page). q ≡ p)
     (λ e. (let a = (and_parts p.lines (not p.tight) e).0 in absurd cc)) (λ e. refl)
 
--- where lines stay whole, that is the only way
+-- if lines can't be broken, a layout is the tokens on one line
 line_whole : (ps : List LayoutPart) (p : Page) → p.lines ≡ false → lay p ps ≡ put p (tokens_in ps)
 line_whole [] p h = refl
 line_whole (one t ∷ ps) p h = line_whole ps (put_one p t) h
@@ -60,7 +60,7 @@ tokens_both [] qs = refl
 tokens_both (one t ∷ ps) qs = ap (λ (l : List Tok). t ∷ l) (tokens_both ps qs)
 tokens_both (line n ∷ ps) qs = tokens_both ps qs
 
--- first these, and then those
+-- two writes in sequence
 pub puts_both : (ts us : List Tok) (a b c : Page) → Writes ts a b → Writes us b c
     → Writes (ts ++ us) a c
 puts_both ts us a b c v w =
@@ -95,7 +95,7 @@ module _ {X A : Type 0} (view : X → A) (spell : A → List Tok) (printable : A
       let p = and_parts (printable (view y)) (each printable (map view xs)) e in
       rw (p.0) (printable_last xs x p.1 f)
 
-  -- one value more
+  -- one more value
   pub wrote_more : (xs : List X) (i : ℕ) (d : X) (a b c : Page) → i < length xs
       → Wrote view spell printable (take i xs) a b → c ≡ put b (spell (view (get_or xs i d)))
       → printable (view (get_or xs i d)) ≡ true
@@ -109,7 +109,7 @@ module _ {X A : Type 0} (view : X → A) (spell : A → List Tok) (printable : A
         fits = printable_last (take i xs) x w.fits f;
       })
 
-  -- the same of the value that stands there
+  -- the same for the value at this index
   pub wrote_item : (xs : List X) (i : ℕ) (x : X) (a b c : Page) → i < length xs
       → x ≡ get_or xs i x → Wrote view spell printable (take i xs) a b
       → c ≡ put b (spell (view x)) → printable (view x) ≡ true
@@ -118,7 +118,7 @@ module _ {X A : Type 0} (view : X → A) (spell : A → List Tok) (printable : A
       wrote_more xs i x a b c lt w (subst (λ (y : X). c ≡ put b (spell (view y))) s e)
       (subst (λ (y : X). printable (view y) ≡ true) s f)
 
-  -- one value more, on further lines
+  -- one more value, with line breaks
   pub lines_more : (xs : List X) (i : ℕ) (x : X) (a b c : Page) → i < length xs
       → x ≡ get_or xs i x → WroteLines view spell printable (take i xs) a b
       → Writes (spell (view x)) b c
@@ -133,12 +133,12 @@ module _ {X A : Type 0} (view : X → A) (spell : A → List Tok) (printable : A
         fits = printable_last ys x w.fits f;
       })
 
--- a word and more in parentheses
+-- a word and tokens in parentheses
 pub put_grouped : (w : List ℕ) (ts : List Tok) (p : Page)
     → put p (grouped w ts) ≡ put (put (put p (LParen ∷ Keyword w ∷ [])) ts) (RParen ∷ [])
 put_grouped w ts p = put_both ts (RParen ∷ []) (put p (LParen ∷ Keyword w ∷ []))
 
--- `(`, the word, more, and `)`
+-- `(`, the word, tokens, and `)`
 pub enclosed : (w : List ℕ) (ts : List Tok) (a b c d e : Page) → b ≡ put a (LParen ∷ [])
     → c ≡ put b (Keyword w ∷ []) → d ≡ put c ts → e ≡ put d (RParen ∷ [])
     → e ≡ put a (grouped w ts)
@@ -147,12 +147,12 @@ enclosed w ts a b c d e f g h i =
     (h ∙ ap (λ (q : Page). put q ts) (g ∙ ap (λ (q : Page). put q (Keyword w ∷ [])) f))
     ∙ sym (put_grouped w ts a)
 
--- first these, and then those
+-- two writes in sequence
 pub put_then : (ts us : List Tok) (a b c : Page) → b ≡ put a ts → c ≡ put b us
     → c ≡ put a (ts ++ us)
 put_then ts us a b c e f = f ∙ ap (λ (q : Page). put q us) e ∙ sym (put_both ts us a)
 
--- where one value can't be written, not all can
+-- if one value can't be written, not all values can be written
 module _ {X A : Type 0} (view : X → A) (printable : A → Bool) where
   pub not_each : (xs : List X) (i : ℕ) (d : X) → i < length xs
       → printable (view (get_or xs i d)) ≡ false
@@ -162,7 +162,7 @@ module _ {X A : Type 0} (view : X → A) (printable : A → Bool) where
   not_each (x ∷ xs) (suc i) d lt f =
       and_right (printable (view x)) (each printable (map view xs)) (not_each xs i d (omega arith) f)
 
--- two blanks for each turn of a loop
+-- each turn of the loop appends two blanks
 blanks_step : (times i : ℕ) → i < times
     → blanks (2 * (times - i)) ≡ 32 ∷ 32 ∷ blanks (2 * (times - (i + 1)))
 blanks_step times i lt =
@@ -175,7 +175,7 @@ blanks_turn x y z times i lt e h =
     ap (λ (l : List ℕ). l ++ r) e ∙ append_assoc x (32 ∷ 32 ∷ []) r
     ∙ ap (λ (l : List ℕ). x ++ l) (sym (blanks_step times i lt)) ∙ h
 
--- a line isn't broken behind `(`
+-- a line isn't broken after `(`
 pub tight_stays : (n : ℕ) (p : Page) → p.tight ≡ true → broken n p ≡ p
 tight_stays n p h =
     cond_both (p.lines && not p.tight) _ p (λ (q : Page). q ≡ p)
@@ -189,7 +189,7 @@ broken_to n p q l t e =
     cond_both (p.lines && not p.tight) _ p (λ (k : Page). q ≡ k) (λ f. e)
     (λ f. (let a : p.lines && not p.tight ≡ true = rw (l, t) refl in absurd cc))
 
--- a break, and the blanks
+-- a line break, then the blanks
 pub line_broken : (n : ℕ) (x y z : List ℕ) (lines tight : Bool) (p : Page)
     → record { bytes = x; tight = tight; lines = lines } ≡ p → lines ≡ true → tight ≡ false
     → y ≡ x ++ (10 ∷ []) → z ≡ y ++ blanks n
@@ -208,19 +208,19 @@ put_parens ts a b c d e f g =
     g ∙ ap (λ (q : Page). put q (RParen ∷ [])) (f ∙ ap (λ (q : Page). put q ts) e)
     ∙ sym (put_both ts (RParen ∷ []) (put a (LParen ∷ [])))
 
--- a line break, and then tokens
+-- a line break, then tokens
 pub puts_behind : (n : ℕ) (ts : List Tok) (a b c : Page) → b ≡ broken n a → c ≡ put b ts
     → Writes ts a c
 puts_behind n ts a b c e f = puts_both [] ts a b c (puts_line n a b e) (puts_put ts b c f)
 
--- where one value can't be, not all can
+-- if the value at an index can't be written, not all values can be written
 pub not_each_item : {X A : Type 0} (view : X → A) (printable : A → Bool) (xs : List X) (i : ℕ)
     (x : X) → i < length xs → x ≡ get_or xs i x → printable (view x) ≡ false
     → each printable (map view xs) ≡ false
 not_each_item {X = X} view printable xs i x lt s f =
     not_each view printable xs i x lt (subst (λ (y : X). printable (view y) ≡ false) s f)
 
--- ---- the groups of lists that are seen
+-- ---- the groups of views of lists
 
 spell_alone : {P : Type 0} (spell : List P → List Tok) (ps : List P)
     → flat_map spell (map by_itself ps) ≡ flat_map (λ p. spell (by_itself p)) ps
@@ -249,7 +249,7 @@ module _ {X : Type 0} (view : X → ValTy) where
   results_together [] e = absurd cc
   results_together (x ∷ xs) e = refl
 
--- a function type's groups: those of parameters, and then that of results
+-- the groups of a function type: the groups of parameters, then the group of results
 params_split : (gs : List (List ParamTy)) (hs : List Group)
     → flat_map func_group_form.spell (map param gs ++ hs)
     ≡ flat_map params_form.spell gs ++ flat_map func_group_form.spell hs

@@ -1,4 +1,4 @@
--- Laws: accesses to memories, and orderings, are read again.
+-- Laws: round trips of memory accesses and orderings.
 use Rattle.std.specs.Prelude.{not, ◌≡◌, ℕ, zero, suc, ◌^◌, ◌<◌, Bool, true, false, ◌&&◌, ◌||◌, ◌==◌}
 use Rattle.std.specs.Prelude.{List, ◌∷◌, ◌++◌, codes, decimal, Option, Some, None, unwrap_or}
 use Rattle.std.specs.Prelude.{is_none, option_map}
@@ -53,8 +53,8 @@ use Rattle.wat_print_instr.specs.Laws.Places.{index_or_0_only}
 
 -- ---- targets
 
--- what may follow a target: where it is memory 0 and nothing is written, what begins neither an
--- index nor a group of `type`
+-- The rest x may follow a target. Nothing is written for memory 0; then x begins neither with an
+-- index nor with a group of `type`.
 abbrev pub EndsTarget : TargetTy → List Tok → Type 0
 EndsTarget (memory (number zero)) x = (begins_index x ≡ false) × (array_follows x ≡ false)
 EndsTarget (memory _) x = begins_word (codes "type") x ≡ false
@@ -110,7 +110,7 @@ offset_chars n lt = rw (number_chars n lt) refl
 align_chars : (n : ℕ) → n < 2 ^ 64 → is_keyword (codes "align=" ++ decimal n) ≡ true
 align_chars n lt = rw (number_chars n lt) refl
 
--- where none is written, in front of what begins none
+-- if no offset is written, the rest begins with no offset
 offset_here : (b : Bool) (n : ℕ) (r : List Tok) → (n == 0) ≡ b → is_u64 n ≡ true
     → (b ≡ true → begins_with (codes "offset=") r ≡ false)
     → offset_or_0.spells n (spell_unless b (codes "offset=") n) r
@@ -149,7 +149,7 @@ align_here a false n r z f e =
 
 -- ---- accesses
 
--- what follows an access begins neither of its words, and isn't mistaken for a group of `type`
+-- the rest begins with neither word of an access, and isn't mistaken for a group of `type`
 abbrev pub EndsAccess : List Tok → Type 0
 EndsAccess r =
     (begins_with (codes "offset=") r ≡ false) × (begins_with (codes "align=") r ≡ false)
@@ -197,7 +197,7 @@ ends_target (memory (number (suc m))) b c n k r e h = no_type b c n k r e
 ends_target (memory (name y)) b c n k r e h = no_type b c n k r e
 ends_target (array i) b c n k r e h = tt
 
--- with b and c: whether the offset is 0, and the alignment the default
+-- b: whether the offset is 0; c: whether the alignment is the default
 access_by : (a : ℕ) (b c : Bool) (t : TargetTy) (n k : ℕ) (r : List Tok) → (n == 0) ≡ b
     → (k == a) ≡ c → printable_target t ≡ true → is_u64 n ≡ true → printable_alignment a k ≡ true
     → EndsAccess r → (is_memory_0 t ≡ true → b && c ≡ true → begins_index r ≡ false)
@@ -243,7 +243,7 @@ none_ordered m e =
       ordering = o;
     }) (is_absent m.ordering e)
 
--- in front of what begins neither an index nor one of its words
+-- if the rest begins with neither an index nor a word of an access
 pub access_here : (a : ℕ) (m : MemArgTy) (r : List Tok) → printable_access a m ≡ true → EndsAccess r
     → begins_index r ≡ false → (mem_arg a).spells m (spell_access a m) r
 access_here a m r f e i =
@@ -282,7 +282,7 @@ pub access_well_formed : (a : ℕ) (m : MemArgTy) → printable_access a m ≡ t
 access_well_formed a m f =
     place_well_formed a m (and_parts (printable_place a m) (is_none m.ordering) f).0
 
--- ---- what a text spells can be written
+-- ---- each value that a text spells can be written
 
 in_number : (o : Option (List ℕ)) (n : ℕ) → number_in o ≡ Some n → is_u64 n ≡ true
 in_number (Some x) n e = unsigned_found 64 (lit≤ tt) x n e
@@ -356,7 +356,7 @@ pub ordering_well_formed : (o : Ordering) → WellFormed (spell_ordering o)
 ordering_well_formed AcqRel = well_formed_one (Keyword (codes "acqrel")) refl
 ordering_well_formed SeqCst = well_formed_one (Keyword (codes "seqcst")) refl
 
--- an ordering that may be there
+-- an optional ordering
 pub fence_here : (o : Option Ordering) (r : List Tok) → begins_ordering r ≡ false
     → opt_spells begins_ordering ordering o (spell_option spell_ordering o) r
 fence_here (Some SeqCst) r e = (refl, ordering_here SeqCst r)
@@ -410,7 +410,7 @@ ordering_part : (o : Option MemArgOrdering) (r : List Tok) → begins_ordering r
 ordering_part None r e = fence_here None r e
 ordering_part (Some x) r e = fence_here (Some (ordering_in x)) r e
 
--- in front of what begins neither an index nor an ordering nor one of its words
+-- if the rest begins with no index, no ordering and no word of an access
 pub atomic_here : (a : ℕ) (rmw : Bool) (m : MemArgTy) (r : List Tok)
     → printable_atomic a rmw m ≡ true
     → EndsAccess r → begins_index r ≡ false → begins_ordering r ≡ false
@@ -519,7 +519,7 @@ alone a n r e s = inl (ap not e, (lane_of n, s, refl, refl))
 abbrev lane_value : ℕ → TargetTy → ℕ → ℕ → ℕ → LaneAccessTy
 lane_value a t n k lane = access_of (mem_arg_of (t, (n, k)), lane_of lane)
 
--- behind something else
+-- an access and its lane, if the lane isn't alone
 behind : (a : ℕ) (b c : Bool) (t : TargetTy) (n k lane : ℕ) (r : List Tok)
     → is_alone (((spell_target t ++ two_words b c n k) ++ spell_number lane) ++ r) ≡ false
     → (mem_arg a).spells (mem_arg_of (t, (n, k))) (spell_target t ++ two_words b c n k)
@@ -552,7 +552,7 @@ not_alone (memory (number (suc m))) true true n k lane r h = refl
 not_alone (memory (name y)) b c n k lane r h = refl
 not_alone (array i) b c n k lane r h = refl
 
--- with d: whether nothing is written before the lane
+-- d: whether nothing is written before the lane
 lane_by : (d b c : Bool) (a : ℕ) (t : TargetTy) (n k lane : ℕ) (r : List Tok)
     → is_memory_0 t && (b && c) ≡ d → (n == 0) ≡ b → (k == a) ≡ c → printable_target t ≡ true
     → is_u64 n ≡ true → printable_alignment a k ≡ true → is_unsigned 8 lane ≡ true → EndsAccess r
@@ -572,7 +572,7 @@ lane_by true b c a (array j) n k lane r d z y f g h i e o = absurd cc
 lane_by true true false a (memory (number zero)) n k lane r d z y f g h i e o = absurd cc
 lane_by true false c a (memory (number zero)) n k lane r d z y f g h i e o = absurd cc
 
--- in front of what is neither an integer nor one of its words
+-- if the rest begins with neither an integer nor a word of an access
 pub lane_access_here : (a : ℕ) (l : LaneAccessTy) (r : List Tok) → printable_lane_access a l ≡ true
     → EndsAccess r → goes_on r ≡ false
     → (lane_access a).spells l (spell_lane_access a l) r

@@ -1,5 +1,4 @@
--- Laws: blocks, calls, the types of a `select`, casts, and what is caught and handled are read
--- again.
+-- Laws: round trips of blocks, calls, the types of a `select`, casts, catch clauses and handlers.
 use Rattle.std.specs.Prelude.{◌≡◌, ℕ, Bool, true, false, ◌&&◌, List, [], ◌∷◌, ◌++◌, codes, flat_map}
 use Rattle.std.specs.Prelude.{Option, Some, None}
 use Rattle.std.specs.Str.{bytes_eq}
@@ -72,9 +71,9 @@ use Rattle.wat_print_instr.specs.Places.{spell_index_or_0}
 use Rattle.wat_print_instr.specs.Laws.Places.{both_here, index_or_0_here, index_or_0_well_formed}
 use Rattle.wat_print_instr.specs.Laws.Places.{index_or_0_only}
 
--- ---- what a type use begins with
+-- ---- the first tokens of a type use
 
--- the test says so of a group's first two tokens, a `(` and a word
+-- the test returns b for the first two tokens of a group, a `(` and a word
 abbrev OfGroups : (List Tok → Bool) → Bool → Type 0
 OfGroups test b = (w : List ℕ) (x : List Tok) → test (LParen ∷ Keyword w ∷ x) ≡ b
 
@@ -111,7 +110,7 @@ end_label_only = only_opt begins_id id_only
 
 -- ---- blocks and calls
 
--- what may follow a block without taking part in it
+-- the tokens r may follow a block, and aren't read as a part of the block
 abbrev pub EndsBlock : List Tok → Type 0
 EndsBlock r = EndsUse r × (begins_id r ≡ false) × (begins_name r ≡ false)
 
@@ -143,7 +142,7 @@ block_only =
     (only_weaker (λ v. printable_block (block_of v.0 v.1)) (λ v h. h)
     (only_seq label_only unnamed_use_only))
 
--- what may follow a call without taking part in it
+-- the tokens r may follow a call, and aren't read as a part of the call
 abbrev pub EndsCall : List Tok → Type 0
 EndsCall r = EndsUse r × (begins_index r ≡ false)
 
@@ -192,7 +191,7 @@ one_group : (ts : List ValTy) (r : List Tok) → each printable_val ts ≡ true
 one_group ts r f e =
     (spell_result ts, [], sym (append-nil (spell_result ts)), refl, result_here ts f r, (refl, e))
 
--- where no group of results follows
+-- if no group of results follows
 pub select_here : (o : Option (List ValTy)) (r : List Tok) → printable_select o ≡ true
     → result_follows r ≡ false → select_types.spells o (spell_select o) r
 unfolding select_types
@@ -257,7 +256,7 @@ branch_only =
     (only_weaker (λ v. printable_branch (branch_of v.0 v.1.0 v.1.1)) (λ v h. h)
     (only_seq index_only (only_seq ref_only ref_only)))
 
--- ---- what a try_table catches
+-- ---- the catch clauses of a try_table
 
 after_here : {A : Type 0} (w : List ℕ) (g : Production A) (v : A) (d r : List Tok)
     → bytes_eq w w ≡ true → g.spells v d r → (after_word w g).spells v (Keyword w ∷ d) r
@@ -374,7 +373,7 @@ catches_end : (cs : List CatchTy) (r : List Tok) → EndsBlock r
 catches_end [] r e = e
 catches_end (c ∷ cs) r e = clause_ends c.kind c.label (flat_map spell_catch cs) r
 
--- in front of what begins neither a part of a block nor a clause
+-- if the rest begins with neither a part of a block nor a catch clause
 pub try_here : (t : TryTy) (r : List Tok) → printable_try t ≡ true → EndsBlock r
     → begins_catch r ≡ false → try_table.spells t (spell_try t) r
 unfolding try_table
@@ -472,7 +471,7 @@ handler_begins : (h : HandleTy) (x : List Tok) → begins_handler (spell_handler
 handler_begins (on_label t l) x = refl
 handler_begins (on_switch t) x = refl
 
--- in front of what begins no handler
+-- if the rest begins with no handler
 pub resume_table_here : (hs : List HandleTy) (r : List Tok) → printable_resume_table hs ≡ true
     → begins_handler r ≡ false → resume_table.spells hs (spell_resume_table hs) r
 unfolding resume_table

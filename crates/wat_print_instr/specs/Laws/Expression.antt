@@ -1,5 +1,5 @@
--- Laws: an expression is read again where its group ends, what it begins with, and that it can be
--- written.
+-- Laws: the round trip of an expression at the end of its group, and the first tokens of an
+-- expression. Each printable expression is well-formed.
 use Rattle.std.specs.Prelude.{◌≡◌, ℕ, zero, suc, ◌+◌, ◌<◌, Bool, true, false, ◌&&◌, ◌||◌, ◌==◌}
 use Rattle.std.specs.Prelude.{nat_lt, List, [], ◌∷◌, ◌++◌, flat_map, length, slice_index, Option}
 use Rattle.std.specs.Prelude.{Some, None, codes, option_map, is_some, if◌then◌else◌}
@@ -38,9 +38,9 @@ use Rattle.wat_print_instr.specs.Laws.Instruction.{EndsOperand, ends_nothing, en
 use Rattle.wat_print_instr.specs.Laws.Instruction.{instruction_here, instruction_well_formed}
 use Rattle.wat_print_instr.specs.Laws.OperandFront.{NoOperandWord, clear_both, operand_clear}
 
--- ---- no instruction's word is looked for
+-- ---- no mnemonic is a word that the parser looks for
 
--- the word is looked for in front of an instruction, or as the first behind its operand
+-- the parser looks for the word before an instruction, or first after the operand
 abbrev is_sought : List ℕ → Bool
 is_sought u =
     bytes_eq u (codes "type") || (bytes_eq u (codes "param") || (bytes_eq u (codes "result")
@@ -106,9 +106,9 @@ word_unsought h =
     not_sought (op_word h)
     (subst (λ (x : Op). is_sought (op_word x) ≡ false) (there h) e)
 
--- ---- what steps begin with
+-- ---- the first tokens of steps
 
--- what the test says of each instruction, and of each hint
+-- the test fails for each mnemonic (OnWords) and for each hint (OnHints)
 abbrev pub OnWords : (List Tok → Bool) → Type 0
 OnWords test = (h : Op) (y : List Tok) → test (Keyword (op_word h) ∷ y) ≡ false
 
@@ -126,7 +126,7 @@ steps_first test f g [] r e = e
 steps_first test f g (x ∷ xs) r e =
     step_first test f g x.hint x.instr (flat_map spell_step xs) r
 
--- the word is in front of no instruction
+-- the word is not a mnemonic
 abbrev pub NoMnemonic : List ℕ → Type 0
 NoMnemonic w = (h : Op) → bytes_eq (op_word h) w ≡ false
 
@@ -140,7 +140,7 @@ steps_word : (w : List ℕ) → NoMnemonic w → (xs : List HintedInstr)
 steps_word w n [] = refl
 steps_word w n (x ∷ xs) = step_word w n x.hint x.instr (flat_map spell_step xs)
 
--- the second token: none of what an operand begins with, and none of what is behind it
+-- the second token isn't w: neither an operand nor the rest begins with w
 step_second : (w : List ℕ) → NoOperandWord w → (h : Option ℕ) (i : Instr) (s t : List Tok)
     → begins_word w s ≡ false → begins_word w t ≡ false
     → second (begins_word w) ((spell_step (step_of h i) ++ s) ++ t) ≡ false
@@ -162,7 +162,7 @@ steps_second w a n (x ∷ xs) r e f =
     step_second w a x.hint x.instr (flat_map spell_step xs) r (steps_word w n xs)
     (no_word_at_end w r e)
 
--- ---- what an expression begins with
+-- ---- the first tokens of an expression
 
 expression_of : (P : List Tok → Type 0) → P []
     → ((xs : List HintedInstr) → P (flat_map spell_step xs))
@@ -170,14 +170,14 @@ expression_of : (P : List Tok → Type 0) → P []
 expression_of P e f (Some xs) = f xs
 expression_of P e f None = e
 
--- what the test says of words and hints it says of expressions
+-- if the test fails for words and hints, the test fails for expressions
 pub expression_first : (test : List Tok → Bool) → OnWords test → OnHints test → (e : Expr)
     (r : List Tok) → test r ≡ false → test (spell_expression e ++ r) ≡ false
 expression_first test f g e r k =
     expression_of (λ c. test (c ++ r) ≡ false) k (λ xs. (steps_first test f g xs r k))
     (steps_from 0 e.instrs e.hints)
 
--- an expression's second token isn't the word
+-- the second token of an expression isn't the word
 pub expression_second : (w : List ℕ) → NoOperandWord w → NoMnemonic w → (e : Expr) (r : List Tok)
     → ends r ≡ true → second (begins_word w) r ≡ false
     → second (begins_word w) (spell_expression e ++ r) ≡ false
@@ -194,7 +194,7 @@ no_param h = (word_unsought h).no_param
 no_result : NoMnemonic (codes "result")
 no_result h = (word_unsought h).no_result
 
--- what may follow an expression: nothing or a `)`, with none of the three words behind it
+-- an expression may be followed by nothing, or by a `)` without any of the three words after it
 abbrev pub EndsExpression : List Tok → Type 0
 EndsExpression r = (ends r ≡ true) × NoTypeSecond r
 
@@ -206,7 +206,7 @@ expression_no_type e r k = (
   expression_second (codes "result") refl no_result e r k.0 k.1.2,
 )
 
--- ---- what may follow an instruction
+-- ---- the tokens that may follow an instruction
 
 word_ends : {w : Op} (h : Op) (y : List Tok)
     → NoTypeSecond (Keyword (op_word h) ∷ y)
@@ -291,7 +291,7 @@ steps_listed (x ∷ xs) s f e =
     (one_listed x.hint x.instr xs (flat_map spell_step xs ++ s) s a.0 (steps_listed xs s a.1 e)
     (steps_ends xs s e))
 
--- what steps are made of is what their items unfold to
+-- the items of steps unfold to the instructions and hints of the steps
 abbrev Unfolds : ℕ → List Instr → List (ℕ × ℕ) → Option (List HintedInstr) → Type 0
 Unfolds b is hs (Some xs) =
     (is ≡ unfolded (items_of xs)) × (hs ≡ hints_behind None (items_of xs) b)
@@ -344,13 +344,13 @@ steps_closed e (Some xs) r b f k = (
       ∙ ap (λ (l : List (ℕ × ℕ)). record { instrs = unfolded (items_of xs); hints = l }) b.1,
 )
 
--- where its group ends
+-- at the end of its group
 pub expression_closed : (e : Expr) (r : List Tok) → printable_expression e ≡ true → EndsExpression r
     → expression.spells e (spell_expression e) r
 expression_closed e r f k =
     steps_closed e (steps_from 0 e.instrs e.hints) r (steps_unfold 0 e.instrs e.hints) f k
 
--- ---- they can be written
+-- ---- printable expressions are well-formed
 
 low_at : (x : List ℕ) → all_are (λ b. nat_lt b 128) x ≡ true → (i : ℕ) → slice_index x i < 128
 low_at [] h i = search (rules)
@@ -403,7 +403,7 @@ step_by : (t : Bool) (b : ℕ) (i : Instr) (is : List Instr) (h : ℕ × ℕ) (h
 step_by true b i is h hs = refl
 step_by false b i is h hs = refl
 
--- the first step has the first hint, where that is its
+-- the first step has the first hint, if the index of the hint is b
 pub next_step : (b : ℕ) (i : Instr) (is : List Instr) (hs : List (ℕ × ℕ))
     → steps_from b (i ∷ is) hs
     ≡ option_map (λ xs. step_of (hint_for b hs) i ∷ xs) (steps_from (b + 1) is (hints_after b hs))

@@ -1,4 +1,4 @@
--- Laws: each expression that tokens of a text spell can be written.
+-- Laws: each expression that the tokens of a text spell can be written.
 use Rattle.std.specs.Prelude.{◌≡◌, ℕ, suc, ◌+◌, ◌<◌, ◌≤◌, Bool, true, false, ◌==◌, List, [], ◌∷◌}
 use Rattle.std.specs.Prelude.{◌++◌, map, length, Option, Some, None, codes, option_map}
 use Rattle.std.proofs.Common.{refl, ap, subst, sym, ◌∙◌, append_assoc, append-nil, arith}
@@ -40,7 +40,7 @@ given_split ts r x y g e f =
     let p = each_front is_given x f.0 (subst (λ (l : List Tok). each is_given l ≡ true) same g.2) in
     (p.0, (f.0, f.1, p.1))
 
--- what is inside, up to the tokens k and a rest
+-- the tokens inside, up to the tokens k and a rest
 given_inside : (b k d r : List Tok) → GivenTo b r → FrontOf b (k ++ d) → FrontOf d r
     → GivenTo b (k ++ d) × GivenTo d r
 given_inside b k d r g f h =
@@ -58,7 +58,7 @@ front_through b k d r f h = (
 front_of : (xs : Items) (ts r : List Tok) → lists xs ts r → FrontOf ts r
 front_of xs ts r l = let b = lists_between xs ts r l in (b.front, b.is)
 
--- ---- steps, and what they are made of
+-- ---- steps: their instructions and hints
 
 abbrev instr_in : HintedInstr → Instr
 instr_in x = x.instr
@@ -128,7 +128,7 @@ marked_unfold p (IfElse i ops th el xs) =
     ) refl
 marked_unfold p (Hinted v xs) = marked_unfold (Some v) xs
 
--- ---- all of them can be written
+-- ---- all steps can be written
 
 abbrev HintBefore : Option ℕ → Items → Type 0
 HintBefore (Some v) xs = (v < 2) × BeginsWithBranch xs
@@ -147,14 +147,14 @@ own_printable : (i : Instr) (c m : List Tok) → each is_given c ≡ true → in
     → printable_instruction i ≡ true
 own_printable i c m a s = instruction_only.holds i c m a s
 
--- an instruction in front, and then what is given up to the rest
+-- an instruction first, and then given tokens up to the rest
 read_printable : (i : Instr) (ts m r : List Tok) → GivenTo ts r → reads i ts m → FrontOf m r
     → (printable_instruction i ≡ true) × GivenTo m r
 read_printable i ts m r g s f =
     let p = given_split ts r s.0 m g s.1 f in
     (own_printable i s.0 m p.0 s.2, p.1)
 
--- the same behind a `(`
+-- the same after a `(`
 opened_printable : (i : Instr) (ts a m r : List Tok) → GivenTo ts r → ts ≡ LParen ∷ a → reads i a m
     → FrontOf m r → (printable_instruction i ≡ true) × GivenTo m r
 opened_printable i ts a m r g e s f =
@@ -172,7 +172,7 @@ is_branch_if i s =
     or_right (is_br_if i.row) (is_if i.row)
     (sorted (is_block i.row) (is_if i.row) s)
 
--- the hint that stands before an item, at the item's own instruction
+-- the hint before an item, at the instruction of the item
 before_plain : (p : Option ℕ) (i : Instr) (xs : Items) → HintBefore p (Plain i xs) → HintAt p i
 before_plain (Some v) i xs h = h
 before_plain None i xs h = tt
@@ -296,7 +296,7 @@ marked_printable p (Hinted v xs) ts r (d, e, lt, k, l) g h =
     let q = given_split ts r c d g e (front_of xs d r l) in
     marked_printable (Some v) xs d r l q.1 (lt, k)
 
--- ---- the hints of items are those of their steps
+-- ---- items and their steps have the same hints
 
 marked_length : (p : Option ℕ) (xs : Items) → length (marked p xs) ≡ length (unfolded xs)
 marked_length p xs = sym (length-map (marked p xs) instr_in) ∙ ap length (marked_unfold p xs)
@@ -311,7 +311,7 @@ hints_both b (x ∷ xs) ys =
     (hints_from (b + 1 + length xs) ys))
     ∙ ap (λ (n : ℕ). (mark x.hint b ++ hints_from (b + 1) xs) ++ hints_from n ys) e
 
--- first these steps, so many, and then those
+-- the hints of n steps xs, and then of the steps ys
 hints_then : (b n : ℕ) (xs ys : List HintedInstr) (hs ks : List (ℕ × ℕ)) → length xs ≡ n
     → hints_from b xs ≡ hs → hints_from (b + n) ys ≡ ks → hints_from b (xs ++ ys) ≡ hs ++ ks
 hints_then b n xs ys hs ks l e f =
@@ -319,7 +319,7 @@ hints_then b n xs ys hs ks l e f =
     ∙ ap (λ (z : List (ℕ × ℕ)). z ++ hints_from (b + length xs) ys) e
     ∙ ap (λ (z : List (ℕ × ℕ)). hs ++ z) (ap (λ (m : ℕ). hints_from (b + m) ys) l ∙ f)
 
--- the same where the place behind them is written otherwise
+-- the same with c for the index b + n
 hints_then_at : (b n c : ℕ) (xs ys : List HintedInstr) (hs ks : List (ℕ × ℕ)) → length xs ≡ n
     → b + n ≡ c → hints_from b xs ≡ hs → hints_from c ys ≡ ks
     → hints_from b (xs ++ ys) ≡ hs ++ ks
@@ -409,7 +409,7 @@ hints_marked p (IfElse i ops th el xs) b =
     (hints_marked None xs (other + o + 1))
 hints_marked p (Hinted v xs) b = hints_marked (Some v) xs b
 
--- ---- steps are told from what they are made of
+-- ---- instructions and hints give the steps
 
 abbrev LowAt : ℕ → List (ℕ × ℕ) → Type 0
 LowAt c [] = Unit {0}

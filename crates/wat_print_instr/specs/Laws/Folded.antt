@@ -1,4 +1,4 @@
--- Laws: folded instructions are read again, and each that tokens of a text spell can be written.
+-- Laws: round trips of folded instructions. Printable folded instructions are well-formed.
 use Rattle.std.specs.Prelude.{◌≡◌, ℕ, zero, suc, ◌<◌, Bool, true, false, not, ◌&&◌, List, [], ◌∷◌}
 use Rattle.std.specs.Prelude.{◌++◌, length, Option, Some, None, codes, option_map, is_some}
 use Rattle.std.specs.Str.{bytes_eq}
@@ -29,7 +29,7 @@ use Rattle.wat_print_instr.specs.Laws.Expression.{EndsExpression, end_ends, word
 use Rattle.wat_print_instr.specs.Laws.Instruction.{EndsOperand, instruction_here}
 use Rattle.wat_print_instr.specs.Laws.Instruction.{instruction_well_formed}
 
--- ---- what a group begins with
+-- ---- the first tokens of a group
 
 abbrev same_test : Bool → Bool → Bool
 same_test true b = b
@@ -40,7 +40,7 @@ same_by true b e = e
 same_by false true e = absurd cc
 same_by false false e = refl
 
--- a group of the word begins a clause of a `try_table` as `is_catch` has it, and no handler
+-- a group of the word begins a catch clause exactly if `is_catch` holds, and never a handler
 abbrev group_told : Op → Bool
 group_told h =
     same_test (is_catch h) (begins_catch (LParen ∷ Keyword (op_word h) ∷ []))
@@ -69,8 +69,8 @@ catch_told h y = same_by (is_catch h) _ (and_parts _ _ (told h)).0
 no_on : (h : Op) → bytes_eq (op_word h) (codes "on") ≡ false
 no_on h = not-true _ (and_parts _ _ (told h)).1
 
--- a group of an instruction takes part in no operand but that of a `try_table`, and in that only if
--- it is one of a `catch`
+-- The group of an instruction isn't read as a part of an operand, with one exception: the group of
+-- a `catch` or `catch_all` after a `try_table`.
 group_ends : {w : Op} (h : Op) (y : List Tok)
     → (takes_catches w ≡ true → is_catch h ≡ false)
     → EndsOperand w (LParen ∷ Keyword (op_word h) ∷ y)
@@ -90,9 +90,9 @@ group_ends h y k =
       );
     }
 
--- ---- groups as they are written are read again
+-- ---- round trips of groups
 
--- no `catch` is in the first group behind a `try_table`
+-- the first group after a `try_table` isn't a `catch` or `catch_all`
 abbrev FirstFree : Op → Groups → Type 0
 FirstFree w NoGroup = Unit {0}
 FirstFree w (Group i gs hs) = takes_catches w ≡ true → is_catch (op_of i) ≡ false
@@ -115,7 +115,7 @@ group_text : (s g h t : List Tok)
     → (in_parens (s ++ g) ++ h) ++ t ≡ LParen ∷ (s ++ (g ++ (RParen ∷ (h ++ t))))
 group_text s g h t = simp append_assoc
 
--- that of the group's instruction, and those of the groups in it
+-- the instruction of the group, and the instructions of the groups inside it, can be written
 own_printable : (gs : Groups) (i : Instr)
     → each printable_instruction (unfolded_groups gs ++ i ∷ []) ≡ true
     → (each printable_instruction (unfolded_groups gs) ≡ true) × (printable_instruction i ≡ true)
@@ -179,7 +179,7 @@ free_behind : (w : Op) (gs : Groups) → takes_catches w ≡ false → FirstFree
 free_behind w NoGroup e = tt
 free_behind w (Group i gs hs) e = λ t. absurd cc
 
--- the groups are read behind the word, and hold the instructions
+-- the groups can be read after the word, and have the instructions
 abbrev Chosen : Op → List Instr → Option Groups → Type 0
 Chosen w is None = Unit {0}
 Chosen w is (Some gs) = (unfolded_groups gs ≡ is) × FirstFree w gs × Readable gs
@@ -222,7 +222,7 @@ behind_chosen h is =
     (Chosen (op_of h) is) (λ e. (apart_chosen (op_of h) [] is))
     (λ e. (own_unfold is, own_free h is e, own_readable is))
 
--- one group, which is read and holds the instructions
+-- one group, which can be read and has the instructions
 abbrev Whole : List Instr → Option Groups → Type 0
 Whole is None = Unit {0}
 Whole is (Some (Group i gs NoGroup)) =
@@ -241,7 +241,7 @@ from_whole before (i ∷ j ∷ is) =
     subst (λ (l : List Instr). Whole l (group_from (before ++ i ∷ []) (j ∷ is)))
     (append_assoc before (i ∷ []) (j ∷ is)) (from_whole (before ++ i ∷ []) (j ∷ is))
 
--- the last instruction's group
+-- the group of the last instruction
 pub group_last : (before is : List Instr) (i : Instr) → group_from before (is ++ i ∷ [])
     ≡ option_map (λ gs. Group i gs NoGroup) (groups_behind i (before ++ is))
 group_last before [] i =
@@ -253,7 +253,7 @@ group_last before (j ∷ k ∷ is) i =
     ∙ ap (λ (l : List Instr). option_map (λ gs. Group i gs NoGroup) (groups_behind i l))
     (append_assoc before (j ∷ []) (k ∷ is))
 
--- ---- what is written
+-- ---- the written tokens
 
 unhinted : (hs : List (ℕ × ℕ)) → no_hints hs ≡ true → hs ≡ []
 unhinted [] e = refl
@@ -299,7 +299,7 @@ folded_parts e f =
     let q = and_parts (each printable_instruction e.instrs) some p.1 in
     (p.0, q.0, q.1)
 
--- where no word that tells of a type is behind it
+-- if none of the words `type`, `param` and `result` follows
 pub folded_here : (e : Expr) (r : List Tok) → printable_folded e ≡ true
     → EndsExpression (RParen ∷ r)
     → folded_instruction.spells e (spell_folded e) r

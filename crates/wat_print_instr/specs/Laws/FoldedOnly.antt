@@ -1,4 +1,4 @@
--- Laws: each folded instruction that tokens of a text spell can be written.
+-- Laws: each folded instruction that the tokens of a text spell can be written.
 use Rattle.std.specs.Prelude.{◌≡◌, Bool, true, false, ◌||◌, List, []}
 use Rattle.std.specs.Prelude.{◌∷◌, ◌++◌, Option, Some, None, option_map, is_some}
 use Rattle.std.proofs.Common.{refl, ap, subst, sym, ◌∙◌}
@@ -56,7 +56,7 @@ groups_printable (Group i gs hs) c r (a, b, d, e, h, ly, lx) g =
     (subst (λ (t : List Tok). groups gs t (RParen ∷ d)) y.is ly) v.1) own)
     (groups_printable hs x.front r (subst (λ (t : List Tok). groups hs t r) x.is lx) v.2)
 
--- ---- what a `try_table` leaves
+-- ---- the tokens after a `try_table`
 
 many_stops : {A : Type 0} (begins : List Tok → Bool) (g : Production A) (vs : List A)
     (c r : List Tok) → many_spells begins g vs c r → begins r ≡ false
@@ -71,7 +71,7 @@ try_stops ops.try_table o c r s t =
     many_stops begins_catch catch_clause p.0.1 p.1.1 r p.1.4
 try_stops _ o c r s t = absurd cc
 
--- no clause is behind it
+-- no catch clause follows a `try_table`
 behind_try : (i : Instr) (a b : List Tok) → reads i a b → takes_catches (op_of i) ≡ true
     → begins_catch b ≡ false
 unfolding instruction
@@ -81,7 +81,7 @@ behind_try i a b (c, e, s) t =
     try_stops h s.5.0 s.2 b s.5.1
     (subst (λ (x : Op). takes_catches x ≡ true) same t)
 
--- what an instruction's group is taken for behind a `try_table`
+-- after a `try_table`, the group of a `catch` or `catch_all` is read as a catch clause
 group_told_of : (i : Instr) (a b : List Tok) → reads i a b
     → begins_catch (LParen ∷ a) ≡ is_catch (op_of i)
 unfolding instruction
@@ -93,7 +93,7 @@ group_told_of i a b (c, e, s) =
     ap (λ (l : List Tok). begins_catch (LParen ∷ l)) front ∙ catch_told h (s.2 ++ b)
     ∙ sym (ap is_catch same)
 
--- ---- where a `catch` is the first of several instructions, one of them keeps apart
+-- ---- if a `catch` is the first of several instructions, one of the instructions keeps apart
 
 abbrev first_is_catch : List Instr → Bool
 first_is_catch [] = false
@@ -115,7 +115,7 @@ any_last : (xs : List Instr) (i : Instr) → keeps_apart i ≡ true
 any_last [] i e = or_left (keeps_apart i) false e
 any_last (x ∷ xs) i e = or_right (keeps_apart x) (any_apart (xs ++ i ∷ [])) (any_last xs i e)
 
--- the first is one of those in the group
+-- the first instruction is in the group
 first_in : (xs : List Instr) (i : Instr) (ys : List Instr) → is_catch (op_of i) ≡ false
     → first_is_catch ((xs ++ i ∷ []) ++ ys) ≡ true → first_is_catch xs ≡ true
 first_in [] i ys n e = absurd cc

@@ -1,4 +1,4 @@
--- Laws: instructions are read again.
+-- Laws: round trips of instructions.
 use Rattle.std.specs.Prelude.{◌≡◌, ℕ, ℤ, suc, zero, ◌<◌, Bool, true, false, ◌&&◌, ◌==◌, List, []}
 use Rattle.std.specs.Prelude.{◌∷◌, ◌++◌, Option, Some, None, length}
 use Rattle.std.proofs.Common.{refl, ap, subst, sym, ◌∙◌, get_or, arith}
@@ -92,7 +92,7 @@ use Rattle.wat_print_instr.specs.Laws.Places.{index_or_0_here, pair_here, init_h
 use Rattle.wat_print_instr.specs.Laws.Places.{sized_here, br_table_here}
 use Rattle.wat_print_instr.specs.Laws.Vectors.{vector_here, shuffle_here, unprintable}
 
--- ---- what is found in an operand is what it was made of
+-- ---- an operand is made of the value that is found in it
 
 block_from : (o : Operand) (v : BlockTy) → found_block o ≡ Some v → block v ≡ o
 block_from (block x) v e = let same : x ≡ v = cc in ap block (sym same)
@@ -196,7 +196,7 @@ thrown_from _ v e = absurd cc
 
 -- ---- operands
 
--- what may follow the operand of the word without taking part in it
+-- the tokens r may follow the operand of h, and aren't read as a part of the operand
 pub record EndsOperand (h : Op) (r : List Tok) : Type 0 where
   pub no_index : begins_index r ≡ false
   pub no_lane : goes_on r ≡ false
@@ -219,7 +219,7 @@ ends_nothing = record {
   block = ((refl, refl, refl), refl, refl);
 }
 
--- a group that begins with another annotation than `@name`
+-- a group that begins with an annotation other than `@name`
 pub ends_annotation : {h : Op} (n : List ℕ) (x : List Tok)
     → bytes_eq n (codes "name") ≡ false → EndsOperand h (LParen ∷ Annotation n ∷ x)
 ends_annotation n x e = record {
@@ -233,7 +233,7 @@ ends_annotation n x e = record {
   block = ((refl, refl, refl), refl, e);
 }
 
--- an operand of the word is printed so
+-- the form f prints the operands of h
 pub record Forms (h : Op) (g : Production Operand) (f : OperandForm) : Type 0 where
   pub well_formed : (o : Operand) → f.printable o ≡ true → WellFormed (f.spell o)
   pub spells : (o : Operand) (r : List Tok) → f.printable o ≡ true → EndsOperand h r
@@ -241,7 +241,7 @@ pub record Forms (h : Op) (g : Production Operand) (f : OperandForm) : Type 0 wh
   pub only : (o : Operand) (c r : List Tok) → each is_given c ≡ true → g.spells o c r
       → f.printable o ≡ true
 
--- what is made of a value that is printed
+-- an operand that is made of a printed value
 module _ {w : Op} {A : Type 0} {g : Production A} (make : A → Operand)
     (from : Operand → Option A) (back : (v : A) → from (make v) ≡ Some v)
     (made_of : (o : Operand) (v : A) → from o ≡ Some v → make v ≡ o) (p : Printing g)
@@ -476,7 +476,7 @@ word_printable h =
 
 -- ---- instructions
 
--- of an instruction of a word
+-- the tokens of the instruction of h
 pub spell_of : (h : Op) (o : Operand)
     → spell_instruction (instr_of h o) ≡ Keyword (op_word h) ∷ (operand_form h).spell o
 spell_of h o =
@@ -509,7 +509,7 @@ of_row i f =
     ap (λ (n : ℕ). record { row = n; operand = i.operand })
     (eqb-true (op_row h) i.row a.0)
 
--- in front of what doesn't take part in it
+-- if the rest isn't read as a part of the instruction
 pub instruction_here : (i : Instr) (r : List Tok) → printable_instruction i ≡ true
     → EndsOperand (op_of_row i.row) r → instruction.spells i (spell_instruction i) r
 instruction_here i r f e =

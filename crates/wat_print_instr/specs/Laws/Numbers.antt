@@ -1,4 +1,4 @@
--- Laws: numbers with a sign, and words that end in a number, are read again.
+-- Laws: round trips of signed and unsigned numbers, and of words that end in a number.
 use Rattle.std.specs.Prelude.{List, ◌≡◌, ℕ, ℤ, zero, suc, pos, negsuc, ◌^◌, ◌-◌, ◌<◌, ◌≤◌, ◌==◌}
 use Rattle.std.specs.Prelude.{◌-ℤ◌, neg_ℤ, true, nat_lt, nat_le}
 use Rattle.std.specs.Prelude.{Option, Some, None, option_map, decimal}
@@ -27,7 +27,7 @@ use Rattle.wat_print_instr.specs.Numbers.{Halves, spell_signed, is_signed, is_un
 pub same_number : (n : ℕ) → (n == n) ≡ true
 same_number n = grind (arith, nat_tests)
 
--- ---- with a sign
+-- ---- signed numbers
 
 signed_text : (bits : ℕ) (z : ℤ) → Halves bits → is_signed bits z ≡ true
     → signed_value bits (signed_decimal z) ≡ Some z
@@ -128,7 +128,7 @@ halves_32 = record { whole = refl; some = lit≤ tt; fits = lit≤ tt }
 pub halves_64 : Halves 64
 halves_64 = record { whole = refl; some = lit≤ tt; fits = lit≤ tt }
 
--- ---- without a sign
+-- ---- unsigned numbers
 
 pub unsigned_here : (bits n : ℕ) → 2 ^ bits ≤ 2 ^ 64 → is_unsigned bits n ≡ true
     → Spells (unsigned bits) n (spell_number n)

@@ -1,5 +1,5 @@
--- Laws: what is written of an operand begins with none of the words that are looked for behind the
--- word of an instruction.
+-- Laws: the tokens that are written for an operand begin with no word that the parser looks for
+-- after the word of an instruction.
 use Rattle.std.specs.Prelude.{◌≡◌, ℕ, zero, suc, ◌==◌, Bool, true, false, List, [], ◌∷◌, ◌++◌}
 use Rattle.std.specs.Prelude.{codes, Option, Some, None, flat_map, decimal}
 use Rattle.std.specs.List.{list_any}
@@ -72,12 +72,12 @@ use Rattle.wat_print_instr.specs.Vectors.{spell_vector}
 
 -- ---- the words that are written in operands
 
--- it begins with a letter with which a word in an operand begins
+-- the word begins with a letter that begins some word in an operand
 abbrev pub begins_operand : List ℕ → Bool
 begins_operand [] = false
 begins_operand (c ∷ w) = list_any (λ x. x == c) (codes "acefinos")
 
--- the word begins with another letter, so it is none of them
+-- the word begins with another letter, so the word is in no operand
 abbrev pub NoOperandWord : List ℕ → Type 0
 NoOperandWord w = begins_operand w ≡ false
 
@@ -93,7 +93,7 @@ ordering_begins : (o : Ordering) → begins_operand (ordering_word o) ≡ true
 ordering_begins AcqRel = refl
 ordering_begins SeqCst = refl
 
--- ---- one behind another
+-- ---- one list of tokens after another
 
 pub clear_both : (w : List ℕ) (c d : List Tok) → begins_word w c ≡ false
     → begins_word w d ≡ false → begins_word w (c ++ d) ≡ false
@@ -102,7 +102,7 @@ clear_both w (Keyword k ∷ c) d e f = e
 clear_both w (_ ∷ c) d e f = refl
 
 module _ (w : List ℕ) (a : NoOperandWord w) where
-  -- the word isn't in front
+  -- the word isn't the first token
   abbrev Clear : List Tok → Type 0
   Clear c = begins_word w c ≡ false
 

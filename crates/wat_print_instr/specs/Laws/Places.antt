@@ -1,4 +1,4 @@
--- Laws: indices, pairs of them, and tables of branches are read again.
+-- Laws: round trips of indices, pairs of indices, and branch tables.
 use Rattle.std.specs.Prelude.{◌≡◌, ℕ, zero, suc, true, false, ◌&&◌, List, [], ◌∷◌, ◌++◌}
 use Rattle.std.specs.Prelude.{flat_map, Option, Some, None, unwrap_or}
 use Rattle.std.proofs.Common.{refl, ap, subst, sym, ◌∙◌, append_assoc, append-nil, inl, inr, lit≤}
@@ -36,13 +36,13 @@ pub both_here : {A B : Type 0} (g : Production A) (h : Production B) (v : A) (w 
     → g.spells v c (d ++ r) → h.spells w d r → (seq g h).spells (v, w) (c ++ d) r
 both_here g h v w c d r s t = (c, d, refl, s, t)
 
--- ---- one index, or none
+-- ---- one index, or no index
 
 pub index_begins : (i : Idx) (x : List Tok) → begins_index (spell_index i ++ x) ≡ true
 index_begins (number n) x = refl
 index_begins (name n) x = refl
 
--- where 0 is meant and nothing is written, in front of what begins no index
+-- if the index is 0, nothing is written, and the rest begins with no index
 pub index_or_0_here : (i : Idx) (r : List Tok) → printable_index i ≡ true
     → (is_index_0 i ≡ true → begins_index r ≡ false)
     → index_or_0.spells i (spell_index_or_0 i) r
@@ -104,7 +104,7 @@ target_first (number n) (name y) r f = inl (refl, pair_here (number n, name y) f
 target_first (name x) (number m) r f = inl (refl, pair_here (name x, number m) f r)
 target_first (name x) (name y) r f = inl (refl, pair_here (name x, name y) f r)
 
--- in front of what begins no index
+-- if the rest begins with no index
 init_by : (i j : Idx) (r : List Tok) → printable_pair (i, j) ≡ true → begins_index r ≡ false
     → init.spells (i, j) (spell_init (i, j)) r
 init_by (number zero) j r f e = alone_here j r f e
@@ -146,7 +146,7 @@ written_pair p r f = (
   refl,
 )
 
--- in front of what begins no index
+-- if the rest begins with no index
 copy_by : (i j : Idx) (r : List Tok) → printable_pair (i, j) ≡ true → begins_index r ≡ false
     → copy.spells (i, j) (spell_copy (i, j)) r
 unfolding copy
@@ -196,7 +196,7 @@ pub sized_only : OnlyPrintable array_of_length printable_sized
 unfolding array_of_length
 sized_only = only_seq index_only (unsigned_only 32 (lit≤ tt))
 
--- ---- the labels of a table of branches
+-- ---- the labels of a branch table
 
 all_here : (i : Idx) (is : List Idx) (r : List Tok) → each printable_index (i ∷ is) ≡ true
     → begins_index r ≡ false → indices.spells (i, is) (flat_map spell_index (i ∷ is)) r
@@ -212,7 +212,7 @@ all_here i is r f e =
           a.1 e,
     )
 
--- the labels, and the default behind them
+-- the labels, and the default after them
 table_by : (ls : List Idx) (d : Idx) (r : List Tok) → each printable_index (ls ++ d ∷ []) ≡ true
     → begins_index r ≡ false
     → BrTableSpells (br_table_of ls d) (flat_map spell_index (ls ++ d ∷ [])) r
@@ -231,7 +231,7 @@ all_printable b f =
     let a = and_parts (each printable_index b.labels) (printable_index b.default) f in
     each_both printable_index b.labels (b.default ∷ []) a.0 (rw (a.1) refl)
 
--- in front of what begins no index
+-- if the rest begins with no index
 pub br_table_here : (b : BrTableTy) (r : List Tok) → printable_br_table b ≡ true
     → begins_index r ≡ false → br_table.spells b (spell_br_table b) r
 unfolding br_table

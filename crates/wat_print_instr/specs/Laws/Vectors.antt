@@ -1,4 +1,4 @@
--- Laws: constants of 128 bits, and lanes that are shuffled, are read again.
+-- Laws: round trips of constants of 128 bits and of shuffled lanes.
 use Rattle.std.specs.Prelude.{◌≡◌, ℕ, ℤ, ◌+◌, Bool, true, false, ◌&&◌, ◌==◌, List, [], ◌∷◌}
 use Rattle.std.specs.Prelude.{◌++◌, codes, flat_map, length, take, drop}
 use Rattle.std.proofs.Common.{refl, subst, sym, append-nil, inl, inr, lit≤, arith}
@@ -37,7 +37,7 @@ use Rattle.wat_print_instr.specs.Laws.Places.{both_here}
 
 -- ---- a number of values
 
--- so many values, in front of anything
+-- n values, before any rest
 abbrev pub ListHere : {A : Type 0} → ℕ → Production (List A) → (A → List Tok) → (A → Bool)
     → Type 0
 ListHere {A} n g spell ok =
@@ -98,7 +98,7 @@ module _ {A : Type 0} (spell : A → List Tok) (ok : A → Bool) where
     unfolding sixteen
     sixteen_here vs r e f = twice_here 8 (eight g) eight_here vs r e f
 
-  -- ---- what a text spells can be written
+  -- ---- each value that a text spells can be written
 
   pair_printable : (p : A × A) → ok p.0 && ok p.1 ≡ true
       → printable_number_of 2 ok (p.0 ∷ (p.1 ∷ [])) ≡ true
@@ -145,7 +145,7 @@ module _ {A : Type 0} (spell : A → List Tok) (ok : A → Bool) where
 
 -- ---- constants
 
--- the lanes of a shape, behind its word
+-- the lanes of a shape, after its word
 shape_here : (n : ℕ) (w : List ℕ) (f : List ℤ → V128Const) (bits : ℕ) (g : Production (List ℤ))
     → bytes_eq w w ≡ true → ListHere n g spell_signed (is_signed bits) → (zs : List ℤ)
     (r : List Tok) → printable_number_of n (is_signed bits) zs ≡ true

@@ -1,4 +1,4 @@
--- Laws: where a field ends an expression ends, and what it begins with.
+-- Laws: an expression may end at the end of a field, and doesn't begin as a local does.
 use Rattle.std.specs.Prelude.{◌≡◌, false, List, ◌++◌, codes}
 use Rattle.std.proofs.Common.{refl}
 use Rattle.wat_lexer.specs.Token.{Tok}

@@ -1,4 +1,4 @@
--- Laws: custom sections are read again.
+-- Laws: round trips of custom sections.
 use Rattle.std.specs.Prelude.{◌≡◌, ℕ, true, false, ◌&&◌, List, [], ◌∷◌, ◌++◌, codes, flat_map}
 use Rattle.std.specs.Str.{is_utf8}
 use Rattle.std.proofs.Common.{refl, inl, inr, lit≤}
@@ -44,7 +44,7 @@ data_here ss r f e =
     many_here more string spell_string printable_string string_here (λ v x o. refl) ss r
     f e
 
--- up to the end of the group
+-- at the end of its group
 pub raw_here : (v : RawTy) (r : List Tok) → printable_raw v ≡ true → more r ≡ false
     → raw_custom.spells v (spell_raw v) r
 unfolding raw_custom
@@ -74,7 +74,7 @@ raw_well_formed v f =
     (well_formed_both p d (place_group_well_formed v.place)
     (well_formed_each spell_string printable_string string_well_formed v.data a.1)))
 
--- any place
+-- a section with any place can be written
 place_printable : (v : List ℕ × (CustomPlace × List (List ℕ)))
     → is_utf8 v.0 && (true && each printable_string v.1.1) ≡ true
     → printable_raw (raw_of v.0 v.1.0 v.1.1) ≡ true
@@ -90,7 +90,7 @@ raw_only =
 
 -- ---- custom sections
 
--- up to the end of the group
+-- at the end of its group
 pub custom_here : (v : CustomTy) (r : List Tok) → printable_custom v ≡ true → more r ≡ false
     → custom.spells v (spell_custom v) r
 unfolding custom

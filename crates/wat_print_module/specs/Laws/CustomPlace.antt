@@ -1,4 +1,4 @@
--- Laws: the places of custom sections are read again.
+-- Laws: round trips of the places of custom sections.
 use Rattle.std.specs.Prelude.{◌≡◌, true, false, List, [], ◌∷◌, ◌++◌, codes, Some, None}
 use Rattle.std.proofs.Common.{refl, inl, inr}
 use Rattle.wat_lexer.specs.Token.{Tok, RParen, Keyword}
@@ -46,7 +46,7 @@ section_no_last _ x = refl
 
 -- ---- places
 
--- what stands behind `before`, and behind `after`
+-- the tokens after `before`, and after `after`
 abbrev first_or_section : Production CustomPlace
 first_or_section =
     where_else (begins_word (codes "first")) (made (λ _. BeforeFirst) (word (codes "first")))
@@ -99,7 +99,7 @@ custom_place_well_formed AfterLast =
 
 -- ---- places of raw sections
 
--- where no `(` follows
+-- if no `(` follows
 pub place_group_here : (p : CustomPlace) (r : List Tok) → begins_lparen r ≡ false
     → raw_place.spells p (spell_place_group p) r
 unfolding raw_place

@@ -1,4 +1,4 @@
--- Laws: data segments are read again.
+-- Laws: round trips of data segments.
 use Rattle.std.specs.Prelude.{◌≡◌, ℕ, zero, suc, Bool, true, false, not, List, [], ◌∷◌}
 use Rattle.std.specs.Prelude.{◌++◌, codes, Option, Some, None, unwrap_or}
 use Rattle.std.proofs.Common.{refl, subst, sym, append_assoc, inl, inr, lit≤}
@@ -65,7 +65,7 @@ written_memory i r f =
       ),
     )
 
--- in front of a group of another word
+-- if the rest begins with no number and no group of `memory`
 memory_here : (i : Idx) (r : List Tok) → printable_index i ≡ true → begins_integer r ≡ false
     → memory_follows r ≡ false → InMemory i (spell_data_memory i) r
 unfolding data_memory
@@ -86,7 +86,7 @@ offset_here e r f n =
 
 -- ---- kinds
 
--- what is in front of values
+-- the test returns b for the first tokens of values
 vals_first : (test : List Tok → Bool) (b : Bool) → ((s : List ℕ) (x : List Tok)
     → test (String s ∷ x) ≡ b) → ((x : List Tok) → test (LParen ∷ Keyword (codes "i8") ∷ x) ≡ b)
     → ((x : List Tok) → test (RParen ∷ x) ≡ b) → (vs : List DataValTy) (r : List Tok)
@@ -124,7 +124,7 @@ active_here i e r f g n = (
   refl,
 )
 
--- in front of values
+-- before values
 kind_here : (k : DataKindTy) (vs : List DataValTy) (r : List Tok) → printable_data_kind k ≡ true
     → data_kind.spells k (spell_data_kind k) (spell_data_vals vs ++ RParen ∷ r)
 unfolding data_kind
@@ -140,7 +140,7 @@ kind_here (active i e) vs r f =
 
 -- ---- segments
 
--- what is behind a label
+-- the test returns b for the tokens after a label
 kind_first : (test : List Tok → Bool) (b : Bool) → ((s : List ℕ) (x : List Tok)
     → test (String s ∷ x) ≡ b) → ((w : List ℕ) (x : List Tok) → test (LParen ∷ Keyword w ∷ x) ≡ b)
     → ((x : List Tok) → test (RParen ∷ x) ≡ b) → (k : DataKindTy) (vs : List DataValTy)
@@ -150,7 +150,7 @@ kind_first test b f g h (active (number zero) e) vs r = g (codes "offset") _
 kind_first test b f g h (active (number (suc n)) e) vs r = g (codes "memory") _
 kind_first test b f g h (active (name x) e) vs r = g (codes "memory") _
 
--- in front of the `)` of its group, which makes a segment passive that has no values
+-- before the `)` of its group: only the `)` shows that a segment without values is passive
 pub data_here : (d : DataTy) (r : List Tok) → printable_data d ≡ true
     → data_segment.spells d (spell_data d) (RParen ∷ r)
 unfolding data_segment
@@ -178,7 +178,7 @@ data_here d r f =
       refl,
     )
 
--- ---- they can be written
+-- ---- printable segments are well-formed
 
 pub offset_well_formed : (e : Expr) → printable_expression e ≡ true → WellFormed (spell_offset e)
 offset_well_formed e f =
@@ -208,7 +208,7 @@ data_well_formed d f =
     (well_formed_both (spell_label d.label) (k ++ v) (label_well_formed d.label a.0)
     (well_formed_both k v (kind_well_formed d.kind b.0) (data_vals_well_formed d.vals b.1)))
 
--- ---- what a text spells can be written
+-- ---- each value that a text spells can be written
 
 zero_or : (o : Option Idx) → if_some printable_index o ≡ true
     → printable_index (unwrap_or o (number 0)) ≡ true

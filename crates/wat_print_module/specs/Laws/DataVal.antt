@@ -1,4 +1,4 @@
--- Laws: values of data segments are read again.
+-- Laws: round trips of the values of data segments.
 use Rattle.std.specs.Prelude.{◌≡◌, ℕ, ℤ, zero, suc, pos, negsuc, ◌-◌, ◌-ℤ◌, ◌<◌, ◌≤◌, ◌%◌, ◌/◌, ◌^◌}
 use Rattle.std.specs.Prelude.{true, false, nat_lt, nat_le, List, [], ◌∷◌, ◌++◌, map}
 use Rattle.std.specs.Prelude.{flat_map, codes, Some, decimal}
@@ -42,7 +42,7 @@ use Rattle.wat_print_module.specs.Segments.{spell_data_val, printable_data_val, 
 
 -- ---- a byte, as a number of 8 bits
 
--- the bits of the number that has its bits
+-- a signed number of 8 bits with the bits of b gives b
 bits_back : (b : ℕ) → b < 256 → cast_unsigned w8 (twos_complement 8 b) ≡ b
 bits_back b lt =
     cond_both (nat_lt b 128) (pos b) (pos b -ℤ pos 256) (λ (z : ℤ). cast_unsigned w8 z ≡ b)
@@ -73,7 +73,7 @@ byte_here b h r =
     let lt = ltb-true b 256 h in
     (twos_complement 8 b, (Integer (decimal b), refl, byte_text b lt), refl, byte_back b lt)
 
--- ---- all of them
+-- ---- all bytes
 
 bytes_each : (bs : List ℕ) → all_of (map by_itself bs) ≡ bs
 bytes_each [] = refl
@@ -119,7 +119,7 @@ data_val_here (numbers bs) f r =
       ),
     )
 
--- one is in front
+-- a value begins the tokens
 data_val_more : (v : DataValTy) (x : List Tok) → printable_data_val v ≡ true
     → more (spell_data_val v ++ x) ≡ true
 data_val_more (written bs) x f = refl
@@ -132,7 +132,7 @@ data_vals_here vs r f e =
     many_here more data_val spell_data_val printable_data_val data_val_here data_val_more vs r f
     (rw e refl)
 
--- ---- they can be written
+-- ---- printable values are well-formed
 
 numbers_well_formed : (bs : List ℕ) → all_are is_byte bs ≡ true
     → WellFormed (flat_map spell_number bs)
@@ -160,7 +160,7 @@ pub data_vals_well_formed : (vs : List DataValTy) → each printable_data_val vs
 data_vals_well_formed vs f =
     well_formed_each spell_data_val printable_data_val data_val_well_formed vs f
 
--- ---- what a text spells can be written
+-- ---- each value that a text spells can be written
 
 byte_at_is : (i n : ℕ) → is_byte (byte_at i n) ≡ true
 byte_at_is zero n = byte_is (n % 256) (omega arith)

@@ -1,4 +1,4 @@
--- Laws: the `dylink.0` section is read again.
+-- Laws: round trips of the `dylink.0` section.
 use Rattle.std.specs.Prelude.{◌≡◌, ℕ, ◌^◌, Bool, true, false, ◌&&◌, List, [], ◌∷◌, ◌++◌, codes}
 use Rattle.std.specs.Prelude.{flat_map, map, fold, Option, Some, None, unwrap_or}
 use Rattle.std.specs.Int.Bits.{bit_or, or_zero_l}
@@ -81,7 +81,7 @@ flag_only =
     (only_made (λ _. true) (λ f. f.0) (is_unsigned 32)
     (only_word_in flag_words (λ f. is_unsigned 32 f.0) refl))
 
--- what bits of 32 are joined to has no more
+-- the bitwise or of numbers of 32 bits has 32 bits
 joined_printable : (ns : List ℕ) (n : ℕ) → is_unsigned 32 n ≡ true → each (is_unsigned 32) ns ≡ true
     → is_unsigned 32 (fold bit_or n ns) ≡ true
 joined_printable [] n f g = f
@@ -222,7 +222,7 @@ names_well_formed w ns k f =
     well_formed_group w (flat_map spell_string ns) k
     (well_formed_each spell_string is_utf8 text_well_formed ns f)
 
--- it is of neither exports nor imports
+-- the subsection is of neither exports nor imports
 abbrev is_lone : SubsectionTy → Bool
 is_lone (export_info es) = false
 is_lone (import_info es) = false
@@ -264,7 +264,7 @@ lone_here (target_arch n) f r =
 lone_here (export_info es) f r = absurd cc
 lone_here (import_info es) f r = absurd cc
 
--- its word is none of those of exports and imports
+-- the word of the subsection is neither `export-info` nor `import-info`
 lone_no_export : (s : SubsectionTy) (x : List Tok) → printable_lone s ≡ true
     → (begins_export (spell_subsection s ++ x) ≡ false)
     × (begins_import (spell_subsection s ++ x) ≡ false)
@@ -423,7 +423,7 @@ all_given (s ∷ ss) f =
     let a = each_front printable_entry (entries_in s) (flat_map entries_in ss) f in
     rw (one_given s a.0) (all_given ss a.1)
 
--- ---- how they are cut
+-- ---- how entries are cut into subsections
 
 filled_from : (s : SubsectionTy) → is_filled s ≡ true → IsFilled s
 filled_from (export_info []) h = absurd cc
@@ -479,7 +479,7 @@ entries_here ss r f e =
     (flat_map entries_in ss) r
     (all_printable ss f) e)
 
--- up to the end of the group
+-- at the end of its group
 pub dylink_here : (ss : List SubsectionTy) (r : List Tok) → printable_dylink ss ≡ true
     → more r ≡ false
     → dylink.spells ss (spell_dylink ss) r

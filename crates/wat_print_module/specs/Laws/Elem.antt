@@ -1,4 +1,4 @@
--- Laws: element segments, and what they hold, are read again.
+-- Laws: round trips of element segments and their elements.
 use Rattle.std.specs.Prelude.{◌≡◌, ℕ, Bool, true, false, ◌&&◌, List, [], ◌∷◌, ◌++◌, codes}
 use Rattle.std.specs.Prelude.{flat_map, Option, Some, None}
 use Rattle.std.specs.Str.{bytes_eq}
@@ -53,16 +53,16 @@ use Rattle.wat_print_module.specs.Laws.Folded.{no_word, NoTypeFirst, no_type_fir
 use Rattle.wat_print_module.specs.Laws.Folded.{expression_grouped, folded_only}
 use Rattle.wat_print_instr.specs.Laws.OperandFront.{short_apart}
 
--- ---- what a reference type begins with
+-- ---- the first tokens of a reference type
 
--- neither of the words is a shorthand
+-- no shorthand is `func` or `declare`
 short_not : (t : AbstractHeapType)
     → (bytes_eq (short_word t) (codes "func") ≡ false)
     × (bytes_eq (short_word t) (codes "declare") ≡ false)
 short_not word.Func = (refl, refl)
 short_not _ = (refl, refl)
 
--- the test says of what begins with a reference type
+-- the test returns b for tokens that begin with a reference type
 pub of_ref : (test : List Tok → Bool) (b : Bool)
     → ((t : AbstractHeapType) (x : List Tok) → test (Keyword (short_word t) ∷ x) ≡ b)
     → ((n : Bool) (h : HeapTy) (x : List Tok) → test (spell_long n h ++ x) ≡ b) → (t : RefTy)
@@ -84,7 +84,7 @@ long_begins n h x = refl
 pub ref_begins : (t : RefTy) (c r : List Tok) → begins_ref ((spell_ref t ++ c) ++ r) ≡ true
 ref_begins t c r = of_ref begins_ref true short_begins long_begins t c r
 
--- the word isn't what begins a reference type, where it is no shorthand
+-- a word that is no shorthand doesn't begin a reference type
 pub ref_not_word : (w : List ℕ) → ((t : AbstractHeapType) → bytes_eq (short_word t) w ≡ false)
     → (t : RefTy) (c r : List Tok) → begins_word w ((spell_ref t ++ c) ++ r) ≡ false
 ref_not_word w f t c r = of_ref (begins_word w) false (λ s x. (f s)) (λ n h x. refl) t c r
@@ -267,7 +267,7 @@ segment_here (active None o) p r f g e =
 
 -- ---- segments
 
--- what is behind a label
+-- the test fails for the tokens after a label
 segment_first : (test : List Tok → Bool) → ((w : List ℕ) (x : List Tok)
     → test (Keyword w ∷ x) ≡ false) → ((w : List ℕ) (x : List Tok)
     → test (LParen ∷ Keyword w ∷ x) ≡ false) → (k : ElemKindTy) (p : PayloadTy) (r : List Tok)
@@ -280,7 +280,7 @@ segment_first test f g passive (exprs t es) r =
 segment_first test f g (active (Some i) o) p r = g (codes "table") _
 segment_first test f g (active None o) p r = g (codes "offset") _
 
--- in front of an end
+-- at an end
 pub elem_here : (e : ElemTy) (r : List Tok) → printable_elem e ≡ true → ends r ≡ true
     → elem.spells e (spell_elem e) r
 unfolding elem
@@ -300,7 +300,7 @@ elem_here e r f k =
       refl,
     )
 
--- ---- they can be written
+-- ---- printable segments are well-formed
 
 pub items_well_formed : (es : List Expr) → each printable_expression es ≡ true
     → WellFormed (flat_map spell_item es)
@@ -344,7 +344,7 @@ elem_well_formed e f =
     (well_formed_both (spell_label e.label) (k ++ p) (label_well_formed e.label a.0)
     (well_formed_both k p (kind_well_formed e.segment.0 b.0) (payload_well_formed e.segment.1 b.1)))
 
--- ---- what a text spells can be written
+-- ---- each value that a text spells can be written
 
 written_only : (w : List ℕ) → OnlyPrintable (written_or_folded w) printable_expression
 unfolding written_or_folded
@@ -381,7 +381,7 @@ any_payload_only =
 abbrev printable_segment : Segment → Bool
 printable_segment s = printable_elem_kind s.0 && printable_payload s.1
 
--- a table, an offset and what the segment holds
+-- a table, an offset and the elements of the segment
 active_printable : (t : Option Idx) (e : Expr) (p : PayloadTy)
     → if_some printable_index t && (printable_expression e && printable_payload p) ≡ true
     → printable_segment (active_of (t, (e, p))) ≡ true

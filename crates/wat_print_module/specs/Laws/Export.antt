@@ -1,4 +1,4 @@
--- Laws: exports and their types are read again.
+-- Laws: round trips of exports and their types.
 use Rattle.std.specs.Prelude.{◌≡◌, true, List, ◌∷◌, ◌++◌, codes}
 use Rattle.std.specs.Str.{is_utf8}
 use Rattle.std.proofs.Common.{refl}
@@ -88,7 +88,7 @@ export_only =
 
 -- ---- types of exports
 
--- where no word follows
+-- if no word follows
 pub export_type_here : (e : ExportTypeTy) (r : List Tok) → printable_export_type e ≡ true
     → no_word r ≡ true → export_type.spells e (spell_export_type e) r
 unfolding export_type

@@ -1,4 +1,4 @@
--- Laws: the fields of a module are read again.
+-- Laws: round trips of the fields of a module.
 use Rattle.std.specs.Prelude.{◌≡◌, ℕ, true, false, List, ◌∷◌, ◌++◌, codes, flat_map}
 use Rattle.std.proofs.Common.{refl, inl, inr}
 use Rattle.wat_lexer.specs.Token.{Tok, RParen}
@@ -39,7 +39,7 @@ use Rattle.wat_print_module.specs.Laws.Table.{table_here, table_well_formed}
 use Rattle.wat_print_module.specs.Laws.TableOnly.{table_only}
 use Rattle.wat_print_module.specs.Laws.Tag.{tag_here, tag_well_formed, tag_only}
 
--- ---- the word in front tells the kinds apart
+-- ---- the first word distinguishes the kinds of fields
 
 custom_front : (c : CustomTy) (w : List ℕ) (x : List Tok)
     → begins_word w (spell_custom c ++ x) ≡ false
@@ -51,7 +51,7 @@ start_here : (i : Idx) → printable_index i ≡ true → Spells start i (spell_
 unfolding start
 start_here i f r = after_here (codes "start") index i (spell_index i) r refl (index_here i f r)
 
--- a field that is none of the first kinds
+-- the tokens t of a field don't begin with the word w
 abbrev OtherThan : List Tok → List ℕ → Type 0
 OtherThan t w = begins_word w t ≡ false
 
@@ -73,7 +73,7 @@ early : (f : ModuleFieldTy) (c r : List Tok) → OtherThan (c ++ r) (codes "type
 unfolding module_field
 early f c r g e t s = inr (g, inr (e, inr (t, s)))
 
--- what may follow a field in its group
+-- the tokens that may follow a field in its group
 field_shut : (x : List Tok) → no_word x ≡ true → EndsField (RParen ∷ x)
 field_shut x n = (refl, λ w. not_a_word w x n)
 
@@ -170,7 +170,7 @@ first_in (a_custom v) x f n =
       ),
     ))))
 
--- in front of what begins with no word
+-- if the rest doesn't begin with a word
 pub field_group_here : (f : ModuleFieldTy) (x : List Tok) → printable_module_field f ≡ true
     → no_word x ≡ true → field_group.spells f (spell_field_group f) x
 field_group_here f x h n =
@@ -183,7 +183,7 @@ fields_here fs r f n e =
     many_told more no_word field_group spell_field_group printable_module_field field_group_here
     (λ v x o. refl) (λ v x o. refl) fs r f n e
 
--- ---- they can be written
+-- ---- printable fields are well-formed
 
 pub field_group_well_formed : (f : ModuleFieldTy) → printable_module_field f ≡ true
     → WellFormed (spell_field_group f)
@@ -203,7 +203,7 @@ field_group_well_formed (a_data v) f = well_formed_paren _ (data_well_formed v f
 field_group_well_formed (a_tag v) f = well_formed_paren _ (tag_well_formed v f)
 field_group_well_formed (a_custom v) f = custom_well_formed v f
 
--- ---- what a text spells can be written
+-- ---- each value that a text spells can be written
 
 start_only : OnlyPrintable start printable_index
 unfolding start

@@ -1,4 +1,4 @@
--- Laws: exports and imports in line, and what is in front of a field's own part, are read again.
+-- Laws: round trips of inline exports, inline imports and the heads of fields.
 use Rattle.std.specs.Prelude.{◌≡◌, ℕ, true, false, List, [], ◌∷◌, ◌++◌, codes}
 use Rattle.std.specs.Str.{is_utf8}
 use Rattle.std.proofs.Common.{refl}
@@ -24,7 +24,7 @@ use Rattle.wat_print_module.specs.FieldHead.{spell_inline_name, spell_inline_exp
 use Rattle.wat_print_module.specs.FieldHead.{printable_inline_export, spell_inline_import}
 use Rattle.wat_print_module.specs.FieldHead.{printable_inline_import, spell_head, printable_head}
 
--- ---- exports in line
+-- ---- inline exports
 
 inline_name_here : (n : List ℕ) → is_utf8 n ≡ true → Spells inline_name n (spell_inline_name n)
 unfolding inline_name
@@ -49,7 +49,7 @@ unfolding inline_export inline_name
 inline_export_only =
     only_many begins_inline_export inline_name_consumes (only_group (codes "export") text_only)
 
--- ---- imports in line
+-- ---- inline imports
 
 pub inline_import_here : (i : List ℕ × List ℕ) → printable_inline_import i ≡ true
     → Spells inline_import i (spell_inline_import i)
@@ -78,7 +78,7 @@ inline_import_only = only_group (codes "import") (only_seq text_only text_only)
 
 -- ---- heads
 
--- what may follow a head without taking part in it
+-- the tokens r may follow a head, and aren't read as a part of the head
 abbrev pub EndsHead : List Tok → Type 0
 EndsHead r =
     (begins_id r ≡ false) × (begins_name r ≡ false) × (begins_inline_export r ≡ false)
@@ -125,9 +125,9 @@ head_only =
     only_made (λ _. true) (λ v. field_head v.0 v.1) printable_head
     (only_seq label_only inline_export_only)
 
--- ---- what may follow a field
+-- ---- the tokens that may follow a field
 
--- nothing, or the `)` of its group, with no word behind it
+-- nothing, or the `)` of its group without a word after it
 abbrev pub EndsField : List Tok → Type 0
 EndsField r = (ends r ≡ true) × ((w : List ℕ) → second (begins_word w) r ≡ false)
 

@@ -1,4 +1,5 @@
--- Laws: expressions in groups of a word are read again, and folded ones can be written.
+-- Laws: round trips of expressions in groups of a word. The expression of a folded instruction can
+-- be written.
 use Rattle.std.specs.Prelude.{◌≡◌, ℕ, ◌+◌, Bool, true, false, ◌&&◌, List, []}
 use Rattle.std.specs.Prelude.{◌∷◌, ◌++◌, Option, Some, None, option_map, codes}
 use Rattle.std.specs.Str.{bytes_eq}
@@ -25,9 +26,9 @@ use Rattle.wat_print_instr.specs.InstructionForm.{passes, printable_instruction}
 use Rattle.wat_print_instr.specs.Laws.Expression.{expression_closed, next_step}
 use Rattle.wat_print_instr.specs.Laws.FoldedOnly.{groups_printable}
 
--- ---- in a group of a word
+-- ---- an expression in a group of a word
 
--- no word is in front
+-- the first token isn't a word
 abbrev pub no_word : List Tok → Bool
 no_word (Keyword k ∷ r) = false
 no_word _ = true
@@ -43,7 +44,7 @@ end_no_word [] e = refl
 end_no_word (RParen ∷ r) e = refl
 end_no_word (_ ∷ r) e = absurd cc
 
--- none of the three words that say a type is in front
+-- the first token is none of the words `type`, `param` and `result`
 abbrev pub NoTypeFirst : List Tok → Type 0
 NoTypeFirst r =
     (begins_word (codes "type") r ≡ false) × (begins_word (codes "param") r ≡ false)
@@ -87,7 +88,7 @@ plain_steps b (i ∷ is) f =
     let a = and_parts (printable_instruction i) (each printable_instruction is) f in
     step_more None i (steps_from (b + 1) is []) a.0 (plain_steps (b + 1) is a.1)
 
--- an instruction behind the others
+-- an instruction after the others
 steps_behind : (b : ℕ) (is : List Instr) (hs : List (ℕ × ℕ)) (i : Instr)
     → printable_instruction i ≡ true → passes (each printable_step) (steps_from b is hs) ≡ true
     → passes (each printable_step) (steps_from b (is ++ i ∷ []) hs) ≡ true

@@ -1,4 +1,4 @@
--- Laws: what type uses, global types and locals begin with.
+-- Laws: the first tokens of type uses, global types and locals.
 use Rattle.std.specs.Prelude.{◌≡◌, ℕ, Bool, true, false, List, [], ◌∷◌, ◌++◌, codes, flat_map}
 use Rattle.std.specs.Prelude.{Option, Some, None}
 use Rattle.std.specs.Str.{bytes_eq}
@@ -20,11 +20,11 @@ use Rattle.wat_print.specs.Use.{or_empty}
 use Rattle.wat_print.specs.Laws.Before.{of_refs}
 use Rattle.wat_print_module.specs.Local.{spell_locals}
 
--- the test fails of a group of the word
+-- the test fails for a group of the word
 abbrev pub OnGroup : (List Tok → Bool) → List ℕ → Type 0
 OnGroup test w = (y : List Tok) → test (LParen ∷ Keyword w ∷ y) ≡ false
 
--- ---- exports and imports in line
+-- ---- inline exports and imports
 
 pub no_export : (k : List ℕ) → bytes_eq k (codes "export") ≡ false → OnGroup begins_inline_export k
 no_export k e (String s ∷ RParen ∷ y) = e
@@ -54,7 +54,7 @@ use_parts test u (Some i) f s r e = u.0 _
 use_parts test u None (Some f) s r e = inline_first test u (groups_of f) s r
 use_parts test u None None s r e = e
 
--- in front of s, and of the rest
+-- a type use before s and the rest r
 pub use_first : (test : List Tok → Bool) → OnUses test → (u : UseTy FuncTy) (s r : List Tok)
     → test (s ++ r) ≡ false → test ((spell_use u ++ s) ++ r) ≡ false
 use_first test f u s r e = use_parts test f u.index u.inline s r e
@@ -72,7 +72,7 @@ alone_parts test u (Some i) f r e = u.0 _
 alone_parts test u None (Some f) r e = alone_groups test u (groups_of f) r
 alone_parts test u None None r e = e
 
--- in front of the rest
+-- a type use before the rest r
 pub use_alone_first : (test : List Tok → Bool) → OnUses test → (u : UseTy FuncTy) (r : List Tok)
     → test r ≡ false → test (spell_use u ++ r) ≡ false
 use_alone_first test f u r e = alone_parts test f u.index u.inline r e

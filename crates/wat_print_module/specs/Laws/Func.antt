@@ -1,4 +1,4 @@
--- Laws: functions are read again.
+-- Laws: round trips of functions.
 use Rattle.std.specs.Prelude.{◌≡◌, ℕ, Bool, true, false, ◌&&◌, List, ◌∷◌, ◌++◌, codes}
 use Rattle.std.proofs.Common.{refl, inl, inr}
 use Rattle.std.proofs.lemmas.Bool.{and_parts}
@@ -48,7 +48,7 @@ use Rattle.wat_print_module.specs.Laws.Local.{locals_here, locals_well_formed, l
 
 -- ---- type uses, exact or not
 
--- what may follow a field may follow a type use
+-- tokens that may follow a field may follow a type use
 pub field_ends_use : (r : List Tok) → EndsField r → EndsUse r
 field_ends_use r e = (
   e.1 (codes "type"),
@@ -91,7 +91,7 @@ exact_well_formed u false f = use_well_formed u f
 
 -- ---- a type, locals and a body
 
--- what the test says of what stands behind a head
+-- the test fails for the tokens after a head
 abbrev OnBodies : (List Tok → Bool) → Type 0
 OnBodies test = OnUses test × OnGroup test (codes "local") × OnWords test × OnHints test
 
@@ -222,7 +222,7 @@ func_well_formed f h =
     (well_formed_both (spell_head f.head) c (head_well_formed f.head a.0)
     (defined_well_formed f.ty f.kind a.1))
 
--- ---- what a text spells can be written
+-- ---- each value that a text spells can be written
 
 import_printable : (v : (List ℕ × List ℕ) × (FuncUse × Bool))
     → printable_inline_import v.0 && printable_use v.1.0 ≡ true

@@ -1,4 +1,4 @@
--- Laws: globals are read again.
+-- Laws: round trips of globals.
 use Rattle.std.specs.Prelude.{◌≡◌, ℕ, Bool, true, false, ◌&&◌, List, ◌++◌, codes}
 use Rattle.std.proofs.Common.{refl, subst, sym, append_assoc, inl, inr}
 use Rattle.std.proofs.lemmas.Bool.{and_parts}
@@ -48,7 +48,7 @@ value_ends_global e r k = (
       (no_word_at_end (codes "mut") r k.0),
 )
 
--- in front of its value
+-- a global type before the initial value
 typed_first : (test : List Tok → Bool) → OnGlobals test → (t : GlobalTy) (e : Expr) (r : List Tok)
     → test ((spell_global t ++ spell_expression e) ++ r) ≡ false
 typed_first test f t e r =
@@ -145,7 +145,7 @@ global_field_well_formed g f =
     (well_formed_both (spell_head g.head) c (head_well_formed g.head a.0)
     (defined_well_formed g.ty g.kind a.1))
 
--- ---- what a text spells can be written
+-- ---- each value that a text spells can be written
 
 import_printable : (v : (List ℕ × List ℕ) × GlobalTy)
     → printable_inline_import v.0 && printable_global v.1 ≡ true

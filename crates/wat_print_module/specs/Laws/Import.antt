@@ -1,4 +1,4 @@
--- Laws: imports are read again.
+-- Laws: round trips of imports.
 use Rattle.std.specs.Prelude.{◌≡◌, ℕ, true, false, ◌&&◌, List, [], ◌∷◌, ◌++◌, codes, flat_map}
 use Rattle.std.specs.Prelude.{is_none}
 use Rattle.std.specs.Str.{is_utf8}
@@ -86,7 +86,7 @@ named_items_here s ns r f e =
     (spell_sig_group s ++ r) a.0 (item_word_other s.kind
     (((spell_label s.label ++ spell_item s.kind) ++ RParen ∷ []) ++ r))) (shared_here s r a.1 e)
 
--- what ends an import begins no item
+-- the tokens after an import begin no item
 shut_item : (r : List Tok) → is_shut r ≡ true → (item_follows r ≡ false) × (ends r ≡ true)
 shut_item [] h = (refl, refl)
 shut_item (RParen ∷ r) h = (not_a_word (codes "item") r h, refl)
@@ -103,7 +103,7 @@ items_here (group1 []) r f e = let a = shut_item r e in (refl, a.0, a.1)
 items_here (group1 (x ∷ xs)) r f e = typed_list_here (x ∷ xs) r f (shut_item r e).0
 items_here (group2 s ns) r f e = named_items_here s ns r f (shut_no_word r e)
 
--- in front of the end of its group, behind which there is no word
+-- at the end of its group, if no word follows
 pub imports_here : (v : ImportsTy) (r : List Tok) → printable_imports v ≡ true → is_shut r ≡ true
     → imports.spells v (spell_imports v) r
 unfolding imports import_items
@@ -118,7 +118,7 @@ imports_here v r f e =
       refl,
     )
 
--- ---- they can be written
+-- ---- printable imports are well-formed
 
 typed_well_formed : (x : List ℕ × SigTy) → printable_typed x ≡ true → WellFormed (spell_typed x)
 typed_well_formed x f =
@@ -152,7 +152,7 @@ imports_well_formed v f =
     (well_formed_both (spell_string v.from) (spell_items v.items) (text_well_formed v.from a.0)
     (items_well_formed v.items a.1))
 
--- ---- what a text spells can be written
+-- ---- each value that a text spells can be written
 
 typed_only : OnlyPrintable typed_item printable_typed
 unfolding typed_item

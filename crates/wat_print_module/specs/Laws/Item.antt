@@ -1,4 +1,4 @@
--- Laws: signatures of items that are imported or exported are read again.
+-- Laws: round trips of the signatures of imported and exported items.
 use Rattle.std.specs.Prelude.{◌≡◌, ℕ, Bool, true, false, List, [], ◌∷◌, ◌++◌, codes}
 use Rattle.std.specs.Str.{bytes_eq}
 use Rattle.std.proofs.Common.{refl, inl, inr}
@@ -39,9 +39,9 @@ use Rattle.wat_print_module.specs.Laws.Folded.{no_word, not_a_word}
 use Rattle.wat_print_module.specs.Laws.Fronts.{use_alone_first, global_first}
 use Rattle.wat_print_module.specs.Laws.Strings.{is_shut}
 
--- ---- what may follow
+-- ---- the tokens that may follow a signature
 
--- what may follow a signature without taking part in it
+-- the tokens r may follow a signature, and aren't read as a part of the signature
 record EndsSig (r : List Tok) : Type 0 where
   of_use : EndsUse r
   of_exact : EndsUse (RParen ∷ r)
@@ -77,7 +77,7 @@ shut_ends (RParen ∷ r) h =
 shut_ends (LParen ∷ r) h = absurd cc
 shut_ends (_ ∷ r) h = absurd cc
 
--- ---- what a type begins with
+-- ---- the first tokens of a type
 
 use_no_id : (u : UseTy FuncTy) (r : List Tok) → begins_id r ≡ false
     → begins_id (spell_use u ++ r) ≡ false
@@ -92,7 +92,7 @@ use_no_exact : (u : UseTy FuncTy) (r : List Tok) → second (begins_word (codes 
 use_no_exact u r e =
     use_alone_first (second (begins_word (codes "exact"))) (λ y. refl, λ y. refl, λ y. refl) u r e
 
--- the test says so of words and numbers
+-- the test returns b for words and numbers
 record OfLimits (test : List Tok → Bool) (b : Bool) : Type 0 where
   of_word : (w : List ℕ) (x : List Tok) → test (Keyword w ∷ x) ≡ b
   of_number : (n : List ℕ) (x : List Tok) → test (Integer n ∷ x) ≡ b
@@ -252,7 +252,7 @@ sig_by l (tag u) r f g e =
       ),
     )
 
--- in front of the end of its group, behind which there is no word
+-- at the end of its group, if no word follows
 pub sig_here : (s : SigTy) (r : List Tok) → printable_sig s ≡ true → is_shut r ≡ true
     → item_sig.spells s (spell_sig s) r
 sig_here s r f e =
@@ -264,7 +264,7 @@ pub sig_group_here : (s : SigTy) (r : List Tok) → printable_sig s ≡ true →
 sig_group_here s r f e =
     paren_here item_sig s (spell_sig s) r (sig_here s (RParen ∷ r) f e)
 
--- ---- they can be written
+-- ---- printable signatures are well-formed
 
 item_well_formed : (k : ItemKindTy) → printable_item k ≡ true → WellFormed (spell_item k)
 item_well_formed (func u) f = use_well_formed u f
@@ -290,7 +290,7 @@ sig_well_formed s f =
 pub sig_group_well_formed : (s : SigTy) → printable_sig s ≡ true → WellFormed (spell_sig_group s)
 sig_group_well_formed s f = well_formed_paren (spell_sig s) (sig_well_formed s f)
 
--- ---- what a text spells can be written
+-- ---- each value that a text spells can be written
 
 item_only : (w : List ℕ) (k : Production ItemKindTy) → OnlyPrintable k printable_item
     → OnlyPrintable (item_of w k) printable_sig

@@ -1,4 +1,4 @@
--- Laws: locals of functions are read again.
+-- Laws: round trips of locals of functions.
 use Rattle.std.specs.Prelude.{◌≡◌, ℕ, Bool, true, false, not, ◌&&◌, List, [], ◌∷◌, ◌++◌, codes}
 use Rattle.std.specs.Prelude.{flat_map, map, Option, Some, None}
 use Rattle.std.proofs.Common.{refl, ap, subst, sym, append_assoc, append-nil, inl, inr}
@@ -151,7 +151,7 @@ local_parser_well_formed ls f =
     (well_formed_each spell_listed printable_local listed_well_formed ls
     (and_parts (may_share_group ls) (each printable_local ls) f).1)
 
--- ---- each in a group of its own
+-- ---- each local in a separate group
 
 local_here : (l : LocalTy) → printable_local l ≡ true
     → Spells local_group (by_itself l) (spell_local l)
@@ -191,7 +191,7 @@ locals_well_formed ls f =
     well_formed_each spell_local printable_local
     (λ l h. (well_formed_group (codes "local") (spell_listed l) refl (listed_well_formed l h))) ls f
 
--- ---- what a text spells can be written
+-- ---- each value that a text spells can be written
 
 plain_unlabelled : (ls : List LocalTy) → each is_plain ls ≡ true
     → (none_labelled local_label ls ≡ true) × (each printable_local ls ≡ true)

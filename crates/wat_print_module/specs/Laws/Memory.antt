@@ -1,4 +1,4 @@
--- Laws: memories are read again.
+-- Laws: round trips of memories.
 use Rattle.std.specs.Prelude.{◌≡◌, ℕ, Bool, true, false}
 use Rattle.std.specs.Prelude.{List, [], ◌∷◌, ◌++◌, codes, decimal, Option, Some, None}
 use Rattle.std.proofs.Common.{refl, inl, inr}
@@ -44,7 +44,7 @@ use Rattle.wat_print_module.specs.Laws.Fronts.{no_export, no_import_word}
 
 -- ---- kinds
 
--- what is in front of a type
+-- the test returns b for the first tokens of a memory type
 type_parts : (test : List Tok → Bool) (b : Bool) → ((n : ℕ) (x : List Tok)
     → test (Integer (decimal n) ∷ x) ≡ b) → ((n : ℕ) (x : List Tok)
     → test (Keyword (codes "i64") ∷ Integer (decimal n) ∷ x) ≡ b) → (wide : Bool) (n : ℕ)
@@ -59,7 +59,7 @@ type_first : (test : List Tok → Bool) (b : Bool) → ((n : ℕ) (x : List Tok)
     (r : List Tok) → test (spell_memory_type m ++ r) ≡ b
 type_first test b f g m r = type_parts test b f g m.limits.is64 m.limits.min _ _ r
 
--- what is in front of data in line
+-- the test returns b for the tokens of a page size and inline data
 data_first : (test : List Tok → Bool) (b : Bool) → ((x : List Tok)
     → test (LParen ∷ Keyword (codes "pagesize") ∷ x) ≡ b) → ((x : List Tok)
     → test (LParen ∷ Keyword (codes "data") ∷ x) ≡ b) → (o : Option ℕ) (c r : List Tok)
@@ -141,7 +141,7 @@ kind_here (inline wide o d) r f e =
       inl (inline_begins wide o d r, inline_here wide o d r a.0 a.1),
     )
 
--- what is behind a head
+-- the test fails for the tokens after a head
 kind_first : (test : List Tok → Bool) → ((i : List ℕ × List ℕ) (x : List Tok)
     → test (spell_inline_import i ++ x) ≡ false) → ((n : ℕ) (x : List Tok)
     → test (Integer (decimal n) ∷ x) ≡ false) → ((x : List Tok)
@@ -164,7 +164,7 @@ kind_ends_head k r = (
 
 -- ---- memories
 
--- in front of an end
+-- at an end
 pub memory_here : (m : MemoryTy) (r : List Tok) → printable_memory m ≡ true → ends r ≡ true
     → memory.spells m (spell_memory m) r
 unfolding memory
@@ -180,7 +180,7 @@ memory_here m r f e =
       refl,
     )
 
--- ---- they can be written
+-- ---- printable memories are well-formed
 
 kind_well_formed : (k : MemoryKindTy) → printable_memory_kind k ≡ true
     → WellFormed (spell_memory_kind k)
@@ -206,7 +206,7 @@ memory_well_formed m f =
     (well_formed_both (spell_head m.head) k (head_well_formed m.head a.0)
     (kind_well_formed m.kind a.1))
 
--- ---- what a text spells can be written
+-- ---- each value that a text spells can be written
 
 inline_only : OnlyPrintable inline_memory printable_memory_kind
 unfolding inline_memory

@@ -1,4 +1,4 @@
--- Laws: modules are read again.
+-- Laws: round trips of modules.
 use Rattle.std.specs.Prelude.{◌≡◌, ℕ, Bool, true, false, List, [], ◌∷◌, ◌++◌, codes, flat_map}
 use Rattle.std.specs.Prelude.{Option, Some, None, zero, suc, slice_get}
 use Rattle.std.proofs.Common.{refl, inl, inr, lit≤, append_assoc, subst, sym}
@@ -42,9 +42,9 @@ use Rattle.wat_print_module.specs.Laws.Field.{field_group_only}
 use Rattle.wat_print_module.specs.Laws.Folded.{no_word}
 use Rattle.wat_print.specs.Laws.Strings.{string_here, string_well_formed, string_only}
 
--- ---- what is in front
+-- ---- the first tokens of fields
 
--- no annotation of a name stands in a field's group
+-- the group of a field isn't an annotation of a name
 field_no_name : (f : ModuleFieldTy) (x : List Tok)
     → begins_name (LParen ∷ (spell_module_field f ++ x)) ≡ false
 field_no_name (a_custom (raw v)) x = refl
@@ -52,7 +52,7 @@ field_no_name (a_custom (produced fs)) x = refl
 field_no_name (a_custom (linked ss)) x = refl
 field_no_name _ x = refl
 
--- nothing follows, or what closes the group
+-- the tokens r aren't read as a part of the module
 record EndsThere (r : List Tok) : Type 0 where
   no_id : begins_id r ≡ false
   no_name : begins_name r ≡ false
@@ -114,7 +114,7 @@ kind_here (binary ss) r f e =
       ),
     )
 
--- up to the end of its group
+-- at the end of its group
 pub module_here : (m : ModuleTy) (r : List Tok) → printable_module m ≡ true → more r ≡ false
     → module_.spells m (spell_module m) r
 unfolding module_
@@ -137,7 +137,7 @@ pub module_group_here : (m : ModuleTy) → printable_module m ≡ true
 module_group_here m f r =
     paren_here module_ m (spell_module m) r (module_here m (RParen ∷ r) f refl)
 
--- ---- they can be written
+-- ---- printable modules are well-formed
 
 kind_well_formed : (k : ModuleKindTy) → printable_module_kind k ≡ true
     → WellFormed (spell_module_kind k)
@@ -159,7 +159,7 @@ pub module_group_well_formed : (m : ModuleTy) → printable_module m ≡ true
     → WellFormed (spell_module_group m)
 module_group_well_formed m f = well_formed_paren (spell_module m) (module_well_formed m f)
 
--- the text of what was written on a new page
+-- the text that was written on a new page spells the module
 pub module_reads_back : (m : ModuleTy) (lines : Bool) (p q : Page) (x : List ℕ)
     → printable_module m ≡ true → p ≡ blank_page lines → Writes (spell_module_group m) p q
     → x ≡ q.bytes → SpellsModule x m
@@ -170,7 +170,7 @@ module_reads_back m lines p q x f e w b =
     let s = is_module m ts refl (well_formed_visible ts n) (module_group_here m f []) in
     (c.0, c.1, subst (λ (t : List Tok). IsModule t m) (sym c.2) s)
 
--- ---- what a text spells can be written
+-- ---- each value that a text spells can be written
 
 kind_only : OnlyPrintable module_kind printable_module_kind
 unfolding module_kind fields pieces
@@ -192,7 +192,7 @@ module_only =
 pub module_group_only : OnlyPrintable (paren module_) printable_module
 module_group_only = only_paren module_only
 
--- ---- what is refused
+-- ---- modules that are refused
 
 get_unprintable : (fs : List ModuleFieldTy) (i : ℕ) (f : ModuleFieldTy) → slice_get fs i ≡ Some f
     → printable_module_field f ≡ false → each printable_module_field fs ≡ false
@@ -210,7 +210,7 @@ kind_unprintable : (k : ModuleKindTy) (i : ℕ) → UnprintableField (fields_of_
 kind_unprintable (text fs) i u = get_unprintable fs i u.0 u.1 u.2
 kind_unprintable (binary ss) i u = absurd cc
 
--- where a part can't be written, the module can't
+-- if a part can't be written, the module can't be written
 pub part_unprintable : (m : ModuleTy) (o : Option ℕ) → UnprintablePart m o
     → printable_module m ≡ false
 part_unprintable m (Some i) u =
@@ -218,7 +218,7 @@ part_unprintable m (Some i) u =
     (kind_unprintable m.kind i u)
 part_unprintable m None u = rw u refl
 
--- no text spells it then
+-- no text spells the part then
 pub part_none : (m : ModuleTy) (o : Option ℕ) → UnprintablePart m o → NonePart m o
 part_none m (Some i) u = (
   u.0,

@@ -1,4 +1,4 @@
--- Laws: the `producers` section is read again.
+-- Laws: round trips of the `producers` section.
 use Rattle.std.specs.Prelude.{◌≡◌, ℕ, true, false, not, ◌&&◌, List, [], ◌∷◌, ◌++◌, codes}
 use Rattle.std.specs.Prelude.{flat_map, map, Option, Some, None, is_some}
 use Rattle.std.specs.Cmp.Lexicographic.{bytes_decides}
@@ -37,11 +37,11 @@ use Rattle.wat_print_module.specs.Laws.Strings.{well_formed_annotated, producers
 
 -- ---- the words of fields
 
--- what a table of words stands for
+-- the type of the values in a table of words
 abbrev of_table : {A : Type 0} → List (List ℕ × A) → Type 0
 of_table {A = A} table = A
 
--- the type of fields, which has no name outside of its crate
+-- the type of fields, which is private to its crate
 abbrev ProducerField : Type 0
 ProducerField = of_table field_words
 
@@ -58,7 +58,7 @@ sdk = held (look_up field_words (codes "sdk")) refl
 abbrev processor : ProducerField
 processor = held (look_up field_words (codes "processed-by")) refl
 
--- the field's word is read as it
+-- the word of the field is read as the field
 abbrev IsRead : ProducerField → Type 0
 IsRead k = Spells field_word k (Keyword (word_of k) ∷ [])
 
@@ -92,7 +92,7 @@ entry_here k x w f r =
 abbrev entries_of : ProducerField → List Versioned → List ProducerTy
 entries_of k xs = map (λ x. (k, x)) xs
 
--- the entries of a field, in front of others
+-- the entries of a field, before other entries
 entries_here : (k : ProducerField) → IsRead k → (xs : List Versioned) (es : List ProducerTy)
     (d r : List Tok) → each printable_versioned xs ≡ true → many_spells more producer_entry es d r
     → many_spells more producer_entry (entries_of k xs ++ es)
@@ -189,14 +189,14 @@ spelled_are xs ys zs =
 
 -- ---- fields that can be written
 
--- the first field, where it is of the word, and those behind it are all
+-- the first field, if it has the word, and the remaining fields are all fields
 pub in_turn_all : (w : List ℕ) (fs : List ProducedTy) → field_of_word w fs ++ fields_behind w fs
     ≡ fs
 in_turn_all w [] = refl
 in_turn_all w (f ∷ fs) =
     by_test (bytes_eq f.0 w) (λ e. (rw e refl)) (λ e. (rw e refl))
 
--- what is written of both is what is written of all
+-- the tokens of the first field and of the remaining fields are the tokens of all fields
 pub in_turn_spelled : (w : List ℕ) (fs rest : List ProducedTy) → rest ≡ fields_behind w fs
     → flat_map spell_produced_field (field_of_word w fs) ++ flat_map spell_produced_field rest
     ≡ flat_map spell_produced_field fs
@@ -205,7 +205,7 @@ in_turn_spelled w fs rest e =
     ∙ ap (λ (gs : List ProducedTy). flat_map spell_produced_field gs)
     (ap (λ (gs : List ProducedTy). field_of_word w fs ++ gs) e ∙ in_turn_all w fs)
 
--- entries, which make the field of the word, where there are any
+-- the entries of the first field if the field has the word, or no entries
 abbrev Entries : List ℕ → List ProducedTy → Type 0
 Entries w fs =
     (xs : List Versioned) × (field_of_word w fs ≡ with_entries w xs) × (each printable_versioned xs
@@ -240,7 +240,7 @@ pub no_fields : (fs : List ProducedTy) → no_items fs ≡ true → fs ≡ []
 no_fields [] h = refl
 no_fields (f ∷ fs) h = absurd cc
 
--- the fields are those of the entries
+-- the fields have these entries
 record Threes (fs : List ProducedTy) : Type 0 where
   languages : List Versioned
   sdks : List Versioned
@@ -294,7 +294,7 @@ three_here fs t r e =
     t.printable_languages (entries_here sdk sdk_read t.sdks (zs ++ []) (c ++ []) r t.printable_sdks
     (entries_here processor processor_read t.processors [] [] r t.printable_processors (refl, e)))
 
--- up to the end of the group
+-- at the end of its group
 pub producers_here : (fs : List ProducedTy) (r : List Tok) → printable_producers fs ≡ true
     → more r ≡ false → producers.spells fs (spell_producers fs) r
 unfolding producers
@@ -311,7 +311,7 @@ producers_here fs r f e =
       three_are t.languages t.sdks t.processors ∙ sym t.are,
     )
 
--- ---- they can be written
+-- ---- printable sections are well-formed
 
 produced_well_formed : (w : List ℕ) → is_keyword w ≡ true → (x : Versioned)
     → printable_versioned x ≡ true
@@ -345,7 +345,7 @@ producers_well_formed fs f =
     (entries_well_formed (codes "processed-by") refl t.processors []
     t.printable_processors nothing))))
 
--- ---- what a text spells can be written
+-- ---- each value that a text spells can be written
 
 entry_only : OnlyPrintable producer_entry (λ e. printable_versioned e.1)
 unfolding producer_entry
@@ -391,7 +391,7 @@ producers_only =
 
 -- ---- the three words in turn
 
--- where all that is behind the words is known
+-- given the fields after each of the three words
 module _ (fs gs hs ks : List ProducedTy) (a : gs ≡ fields_behind (codes "language") fs)
     (b : hs ≡ fields_behind (codes "sdk") gs) (c : ks ≡ fields_behind (codes "processed-by") hs)
   where

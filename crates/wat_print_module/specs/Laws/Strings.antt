@@ -1,4 +1,4 @@
--- Laws: strings of bytes and annotations are read again, and what stands behind groups.
+-- Laws: round trips of annotations, and the tokens after groups.
 use Rattle.std.specs.Prelude.{◌≡◌, ℕ, ◌<◌, Bool, true, false, List, [], ◌∷◌, codes, slice_index}
 use Rattle.std.specs.Str.{is_utf8, bytes_eq}
 use Rattle.std.proofs.Common.{refl, rules}
@@ -57,9 +57,9 @@ pub well_formed_annotated : (n : List ℕ) (d : List Tok) → is_name n ≡ true
     → WellFormed (in_parens (Annotation n ∷ d))
 well_formed_annotated n d f s m = noted n d [] f s m nothing
 
--- ---- what is in front
+-- ---- the first tokens of a rest
 
--- nothing, or what closes a group, and no word behind that
+-- nothing, or a `)` without a word after it
 abbrev pub is_shut : List Tok → Bool
 is_shut [] = true
 is_shut (RParen ∷ r) = no_word r

@@ -1,4 +1,4 @@
--- Laws: tables are read again.
+-- Laws: round trips of tables.
 use Rattle.std.specs.Prelude.{◌≡◌, ℕ, Bool, true, false, not, ◌&&◌, ◌==◌, if◌then◌else◌, List}
 use Rattle.std.specs.Prelude.{[], ◌∷◌, ◌++◌, codes, decimal, flat_map, map, Option, Some, None}
 use Rattle.std.specs.Prelude.{get_or, ◌+◌, option_map}
@@ -146,7 +146,7 @@ not_so : (a : Bool) → not (a && true) ≡ true → a ≡ false
 not_so true e = absurd cc
 not_so false e = refl
 
--- what is listed, and read as the payload
+-- listed elements that are read as the payload
 abbrev Listing : RefTy → PayloadTy → List Tok → Type 0
 Listing t p r =
     (l : ListedTy) × listed.spells l (spell_elements p) (RParen ∷ r) × (of_type t l ≡ p)
@@ -191,9 +191,9 @@ elements_listed t (exprs u es) r f =
     subst (λ (v : RefTy). Listing t (exprs v es) r) (same_refs t u a.0)
     (exprs_listed t es r a.1)
 
--- ---- in line
+-- ---- inline elements
 
--- none of the words is a shorthand
+-- no shorthand is `shared`, `i64` or `i32`
 short_plain : (t : AbstractHeapType)
     → (bytes_eq (short_word t) (codes "shared") ≡ false)
     × (bytes_eq (short_word t) (codes "i64") ≡ false)
@@ -250,9 +250,9 @@ inline_here t is64 shared p r f g =
       ap (λ (q : PayloadTy). inline t is64 shared q) l.2,
     )
 
--- ---- by its type
+-- ---- tables with a table type
 
--- what the type begins with
+-- the test returns b for the first tokens of a table type
 type_parts : (test : List Tok → Bool) (b : Bool) → ((n : ℕ) (x : List Tok)
     → test (Integer (decimal n) ∷ x) ≡ b) → ((n : ℕ) (x : List Tok)
     → test (Keyword (codes "i64") ∷ Integer (decimal n) ∷ x) ≡ b) → ((n : ℕ) (x : List Tok)
@@ -359,7 +359,7 @@ kind_here (inline t is64 shared p) r f e =
     let b = and_parts (printable_ref t) (printable_elements t p) a.1 in
     inl (inline_begins t is64 shared p r a.0, inline_here t is64 shared p r b.0 b.1)
 
--- what is behind a head
+-- the test fails for the tokens after a head
 kind_first : (test : List Tok → Bool) → ((w : List ℕ) (x : List Tok)
     → test (Keyword w ∷ x) ≡ false) → ((n : ℕ) (x : List Tok)
     → test (Integer (decimal n) ∷ x) ≡ false) → ((i : List ℕ × List ℕ) (x : List Tok)
@@ -385,7 +385,7 @@ kind_ends_head k r = (
 
 -- ---- tables
 
--- in front of an end, with none of the three words behind it
+-- at an end without any of the three words after it
 pub table_here : (t : TableFieldTy) (r : List Tok) → printable_table t ≡ true → EndsExpression r
     → table.spells t (spell_table t) r
 unfolding table
@@ -401,7 +401,7 @@ table_here t r f e =
       refl,
     )
 
--- ---- they can be written
+-- ---- printable tables are well-formed
 
 elements_well_formed : (t : RefTy) (p : PayloadTy) → printable_elements t p ≡ true
     → WellFormed (spell_elements p)

@@ -1,4 +1,4 @@
--- Laws: each table that tokens of a text spell can be written.
+-- Laws: each table that the tokens of a text spell can be written.
 use Rattle.std.specs.Prelude.{◌≡◌, ℕ, Bool, true, false, not, ◌&&◌, if◌then◌else◌, List, []}
 use Rattle.std.specs.Prelude.{◌∷◌, ◌++◌, codes, map, Option, Some, None, is_some}
 use Rattle.std.specs.Str.{bytes_eq}
@@ -37,7 +37,7 @@ use Rattle.wat_print_module.specs.Laws.Elem.{items_only, indices_only}
 use Rattle.wat_print_module.specs.Laws.FieldHead.{head_only, inline_import_only}
 use Rattle.wat_print_module.specs.Laws.Table.{ref_again}
 
--- ---- what is listed
+-- ---- listed elements
 
 more_no_lparen : (r : List Tok) → more r ≡ false → begins_lparen r ≡ false
 more_no_lparen [] e = refl
@@ -53,7 +53,7 @@ some_items [] c r s t =
     let v = more_no_lparen r s.1 in absurd cc
 some_items (e ∷ es) c r s t = refl
 
--- not nothing where items are written
+-- a list of items isn't empty
 abbrev printable_listed : ListedTy → Bool
 printable_listed (by_index is) = each printable_index is
 printable_listed (by_item es) = not (no_items es) && each printable_expression es
@@ -104,7 +104,7 @@ listed_printable : (t : RefTy) (l : ListedTy) → printable_listed l ≡ true
 listed_printable t (by_index is) f = funcs_by t is (is_funcref t) refl f
 listed_printable t (by_item es) f = items_by t es (is_funcref t) refl f
 
--- ---- in line
+-- ---- inline elements
 
 word_is : (w : List ℕ) (k : Tok) (u : Unit {0}) → word_only w k ≡ Some u → k ≡ Keyword w
 word_is w (Keyword v) u e =
@@ -157,7 +157,7 @@ SpellsParts v c r =
     (seq (flag (codes "shared")) (seq is_64 (seq ref_type (group (codes "elem") listed)))).spells v
     c r
 
--- not both words in front
+-- the tokens don't begin with both words
 wide_apart : (v : InlineParts) (c r : List Tok) → begins_inline_elems (c ++ r) ≡ true
     → SpellsParts v c r → v.0 ≡ true → v.1.0 ≡ true → ⊥
 wide_apart v c r t s e f =
@@ -194,7 +194,7 @@ inline_printable k c r a t s =
     (rw (not_wide v.0 v.1.0 (wide_apart v c r t s.1), p.0, listed_printable v.1.1.0 v.1.1.1 p.1)
     refl)
 
--- ---- by its type
+-- ---- tables with a table type
 
 behind_some : {A : Type 0} (a : List A) (x : A) (b c : List A)
     → not (no_items ((a ++ x ∷ b) ++ c)) ≡ true

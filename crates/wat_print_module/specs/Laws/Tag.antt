@@ -1,4 +1,4 @@
--- Laws: tags are read again.
+-- Laws: round trips of tags.
 use Rattle.std.specs.Prelude.{◌≡◌, ℕ, true, ◌&&◌, List, ◌++◌, codes, Option, Some, None}
 use Rattle.std.proofs.Common.{refl}
 use Rattle.std.proofs.lemmas.Bool.{and_parts}

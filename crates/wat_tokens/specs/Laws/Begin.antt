@@ -1,4 +1,4 @@
--- Laws: words of a table: what is in front, and what is read of it.
+-- Laws: words of a table: as the next token, and as read.
 use Rattle.std.specs.Prelude.{◌≡◌, ℕ, false, List, [], ◌∷◌, Some, None, is_some, refl}
 use Rattle.std.proofs.Common.{ap}
 use Rattle.wat_lexer.specs.Token.{Tok, Keyword}
@@ -7,7 +7,7 @@ use Rattle.wat_tokens.specs.Laws.Production.{some_is}
 use Rattle.wat_tokens.specs.PartSpells.{one_reads, with_rest}
 use Rattle.wat_tokens.specs.Begin.{begins_one_of}
 
--- ---- by what the word in front is
+-- ---- by the next word
 
 module _ {A : Type 0} (table : List (List ℕ × A)) where
   pub begins_table : (t : List Tok) (w : List ℕ) (r : List Tok)
@@ -38,8 +38,8 @@ module _ {A : Type 0} (table : List (List ℕ × A)) where
   reads_no_table (Keyword k ∷ t) e = absurd cc
   reads_no_table (_ ∷ t) e = refl
 
--- whether a word of a table is in front, by the keyword in front
+-- whether the next token is a word of a table, by the next keyword
 pub ruleset table_begins = (begins_table, begins_no_table)
 
--- what is read by a table, by the keyword in front
+-- the value read by a table, by the next keyword
 pub ruleset table_reads = (reads_table, reads_no_table)

@@ -1,4 +1,4 @@
--- Laws: what calls count that are one behind the other.
+-- Laws: the counts of consecutive calls.
 use Rattle.std.proofs.Common.{◌∙◌}
 use Rattle.wat_tokens.specs.Cost.{Cost, tokens_alone, words_too, turns_too, Costs}
 use Rattle.wat_tokens.specs.Counts.{Quiet}

@@ -1,4 +1,4 @@
--- Laws: what the counts of a parser do over a call.
+-- Laws: how a call changes the counts of a parser.
 use Rattle.std.specs.Prelude.{◌≡◌, Bool, ℕ, ◌+◌, List, [], ◌++◌, length, refl}
 use Rattle.std.proofs.Common.{arith, length-append, append_assoc, sym, ap, ◌∙◌}
 use Rattle.wat_lexer.specs.Token.{Tok}
@@ -46,11 +46,11 @@ counts_none a =
 pub carries_of : (a b : State) → Counts a b → Carries a b
 carries_of a b p s q = counts_then s a b q p
 
--- what `Carries` says in plain words
+-- `Carries a b` gives `Counts a b`
 pub carried : (a b : State) → Carries a b → Counts a b
 carried a b f = f a (counts_none a)
 
--- what is left and what was taken are together as many as before
+-- the number of tokens taken and left together does not change
 pub counts_within : (a b : State) → Carries a b → b.taken + length b.left ≡ a.taken + length a.left
 unfolding Counts
 counts_within a b f =

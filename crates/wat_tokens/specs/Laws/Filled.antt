@@ -1,4 +1,4 @@
--- Laws: lists that have an item, and lists with another one behind them.
+-- Laws: lists that have an item, and lists with another list appended.
 use Rattle.std.proofs.Common.{◌≡◌, false, List, [], ◌∷◌, ◌++◌, refl, ap, ◌∙◌, append_assoc}
 use Rattle.wat_tokens.specs.Many.{Extends}
 use Rattle.wat_tokens.specs.Views.{no_items}

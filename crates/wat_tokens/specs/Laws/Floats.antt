@@ -1,4 +1,4 @@
--- Laws: literals of floating-point numbers, which aren't read.
+-- Laws: floating-point literals, which are not read.
 use Rattle.std.specs.Prelude.{◌≡◌, List, ◌++◌, ◌≤◌, length, Some}
 use Rattle.wat_lexer.specs.Token.{Tok}
 use Rattle.wat_tokens.specs.Parens.{AreBalanced}

@@ -1,4 +1,4 @@
--- Laws: a part that decides what follows it, and no tokens at all.
+-- Laws: a part whose value decides the next part, and the empty part.
 use Rattle.std.specs.Prelude.{◌≡◌, ◌≤◌, List, [], ◌++◌, length, Some, refl}
 use Rattle.std.proofs.Common.{ap, sym, ◌∙◌, subst, arith, length-append, append_assoc}
 use Rattle.wat_lexer.specs.Token.{Tok}
@@ -9,7 +9,7 @@ use Rattle.wat_tokens.specs.FollowedSpells.{followed_spells, followed_reads, bla
 use Rattle.wat_tokens.specs.FollowedSpells.{blank_reads}
 use Rattle.wat_tokens.specs.Laws.Parens.{balanced_both}
 
--- ---- what is in front, and then what it is followed by
+-- ---- a part, and then a part that depends on its value
 
 module _ {A B : Type 0} (g : Production A) (h : A → Production B) where
   pub followed_sound : (t : List Tok) (x : B × List Tok) → followed_reads g h t ≡ Some x

@@ -1,4 +1,4 @@
--- Laws: what groups spell is what they read.
+-- Laws: the relations and the readers of groups agree.
 use Rattle.std.specs.Prelude.{◌≡◌, ◌+◌, ◌≤◌, List, [], ◌∷◌, ◌++◌, length, Some, refl}
 use Rattle.std.proofs.Common.{ap, subst, sym, ◌∙◌, append_assoc, arith, length-append}
 use Rattle.wat_lexer.specs.Token.{Tok, LParen, RParen}

@@ -1,4 +1,4 @@
--- Laws: groups of parts, one behind the other, as the list of all their parts.
+-- Laws: consecutive groups of parts, as the list of all their parts.
 use Rattle.std.specs.Prelude.{◌≡◌, ◌≤◌, Bool, List, [], ◌∷◌, ◌++◌, Some, None, refl}
 use Rattle.std.proofs.Common.{ap, sym, ◌∙◌, append_assoc}
 use Rattle.std.proofs.lemmas.List.{append-nil}
@@ -20,7 +20,7 @@ module _ {A : Type 0} where
   join_all (Some x) = rw (joins x.0 []) refl
   join_all None = refl
 
--- put behind nothing, they are what `joined` reads
+-- appended to the empty list, the parts are what `joined` reads
 pub joined_reads : {A : Type 0} (follows : List Tok → Bool) (g : Production (List A))
     (consumes : 1 ≤ g.least) (t : List Tok)
     → joined_behind [] (many_reads follows g t) ≡ (joined follows g consumes).reads t

@@ -1,4 +1,4 @@
--- Laws: what a loop keeps that reads a list of parts.
+-- Laws: invariants of a loop that reads a list of parts.
 use Rattle.std.specs.Prelude.{◌≡◌, ◌≤◌, ℕ, zero, suc, Bool, true, false, List, [], ◌∷◌, ◌++◌}
 use Rattle.std.specs.Prelude.{length, Some, None, refl}
 use Rattle.std.proofs.Common.{ap, sym, ◌∙◌, append_assoc}
@@ -17,7 +17,7 @@ pub front_of_none : {A : Type 0} (read : Read (List A)) → after_front [] read 
 front_of_none (Some x) = refl
 front_of_none None = refl
 
--- ---- what a loop keeps: the values so far, and those that are still read
+-- ---- the loop's invariant: the values so far, and the values still to be read
 
 module _ {A : Type 0} (begins : List Tok → Bool) (g : Production A) where
   regroup : (before : List A) (v : A) (read : Read (List A))
@@ -58,7 +58,7 @@ module _ {A : Type 0} (begins : List Tok → Bool) (g : Production A) where
       (λ x e. rw e (rest_after before x.0 (many_at begins g n x.1)))
       (λ e. rw e tt))
 
-  -- where a part begins, what the loop reads is no value without items
+  -- if a part begins, the loop doesn't read an empty list
   pub not_bare : (before : List A) (t : List Tok) (total : Read (List A)) → begins t ≡ true
       → after_front before (many_reads begins g t) ≡ total → NotBare no_items total
   unfolding many_reads

@@ -1,4 +1,4 @@
--- Laws: any number of parts, and what a loop that reads them keeps.
+-- Laws: any number of parts, and the invariant of a loop that reads them.
 use Rattle.std.specs.Prelude.{◌≡◌, ℕ, zero, suc, ◌-◌, ◌≤◌, ◌<◌, Bool, true, false, List, [], ◌∷◌}
 use Rattle.std.specs.Prelude.{◌++◌, length, Option, Some, None, refl}
 use Rattle.std.proofs.Common.{ap, subst, sym, ◌∙◌, append_assoc, arith, length-append}
@@ -12,7 +12,7 @@ use Rattle.wat_tokens.specs.Laws.Parens.{balanced_both}
 use Rattle.wat_tokens.specs.PartSpells.{with_rest}
 use Rattle.wat_tokens.specs.Adding.{add_read, option_then, add_all, add_rest}
 
--- ---- any number of parts: one more wherever the tokens in front begin one
+-- ---- any number of parts: one more whenever the next tokens begin a part
 
 module _ {A : Type 0} (begins : List Tok → Bool) (g : Production A) where
   many_none : (t : List Tok) (x : List A × List Tok) → begins t ≡ false
@@ -67,7 +67,7 @@ module _ {A : Type 0} (begins : List Tok → Bool) (g : Production A) where
       rw (e, b, g.complete v s.0 (s.1 ++ r) s.4, many_at_complete consumes vs n s.1 r short s.5)
       refl
 
-  -- more room than the tokens need changes nothing
+  -- a bound above the number of tokens doesn't change the result
   many_enough : 1 ≤ g.least → (n m : ℕ) (t : List Tok) → length t ≤ n → length t ≤ m
       → many_at begins g n t ≡ many_at begins g m t
   many_enough consumes n m t le le2 =
@@ -147,7 +147,7 @@ module _ {A : Type 0} (begins : List Tok → Bool) (g : Production A) where
       rw (s.2) (balanced_both s.0 s.1 (g.balanced v s.0 (s.1 ++ r) s.4)
       (many_balanced vs s.1 r s.5))
 
--- ---- a loop that adds each part to what it has, where it fits
+-- ---- a loop that adds each part to a state, if the part fits
 
 with_rest_none : {A : Type 0} (o : Option A) (r : List Tok) → with_rest o r ≡ None → o ≡ None
 with_rest_none (Some v) r e = absurd cc

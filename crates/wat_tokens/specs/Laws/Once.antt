@@ -1,4 +1,4 @@
--- Laws: that a production has one reading.
+-- Laws: productions with one reading.
 use Rattle.std.specs.Prelude.{◌≡◌, List, ◌++◌}
 use Rattle.std.proofs.Common.{ap, subst, sym, ◌∙◌}
 use Rattle.std.proofs.lemmas.List.{append_cancel_right}

@@ -1,4 +1,4 @@
--- Laws: what parts spell is what they read.
+-- Laws: the relations and the readers of parts agree.
 use Rattle.std.specs.Prelude.{◌≡◌, ◌+◌, ◌≤◌, min, Bool, true, false, List, [], ◌∷◌, ◌++◌, length}
 use Rattle.std.specs.Prelude.{Option, Some, None, refl}
 use Rattle.std.proofs.Common.{ap, subst, sym, ◌∙◌, append_assoc, arith, length-append, inl, inr}
@@ -11,7 +11,7 @@ use Rattle.wat_tokens.specs.PartSpells.{where_spells, where_reads, of_spells, ke
 use Rattle.wat_tokens.specs.PartSpells.{opt_spells, opt_reads}
 use Rattle.wat_tokens.specs.Laws.Parens.{balanced_both}
 
--- ---- one token, which gives a value
+-- ---- one token that has a value
 
 module _ {A : Type 0} (value_of : Tok → Option A) where
   with_rest_sound : (o : Option A) (x : Tok) (r : List Tok) (y : A × List Tok) → value_of x ≡ o
@@ -80,7 +80,7 @@ module _ {A B : Type 0} (g : Production A) (h : Production B) where
       rw (s.2) (balanced_both s.0 s.1 (g.balanced v.0 s.0 (s.1 ++ r) s.3)
       (h.balanced v.1 s.1 r s.4))
 
--- ---- the one where a test of the tokens in front holds, else the other
+-- ---- one part if a test of the next tokens holds, else another part
 
 module _ {A : Type 0} (test : List Tok → Bool) (g h : Production A) where
   pub where_sound : (t : List Tok) (x : A × List Tok) → where_reads test g h t ≡ Some x
@@ -106,7 +106,7 @@ module _ {A : Type 0} (test : List Tok → Bool) (g h : Production A) where
   where_balanced v c r (inl s) = g.balanced v c r s.1
   where_balanced v c r (inr s) = h.balanced v c r s.1
 
--- ---- a value made of the parts, where the parts meet a condition
+-- ---- a value made of the parts, if the parts meet a condition
 
 module _ {A B : Type 0} (ok : A → Bool) (f : A → B) (g : Production A) where
   pub of_sound : (t : List Tok) (x : B × List Tok) → of_reads ok f g t ≡ Some x
@@ -131,7 +131,7 @@ module _ {A B : Type 0} (ok : A → Bool) (f : A → B) (g : Production A) where
   pub of_balanced : (v : B) (c r : List Tok) → of_spells ok f g v c r → AreBalanced c
   of_balanced v c r s = g.balanced s.0 c r s.1
 
--- ---- an optional part: there where the tokens in front begin it
+-- ---- an optional part: present if the next tokens begin it
 
 module _ {A : Type 0} (begins : List Tok → Bool) (g : Production A) where
   pub opt_sound : (t : List Tok) (x : Option A × List Tok) → opt_reads begins g t ≡ Some x

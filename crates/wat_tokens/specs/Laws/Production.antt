@@ -1,4 +1,4 @@
--- Laws: productions: what tokens spell a value, and how it is read.
+-- Laws: productions: which tokens spell a value, and how a reader reads them.
 use Rattle.std.specs.Prelude.{◌≡◌, ◌≤◌, ◌<◌, List, length, Option, Some, None, refl, Bool, true}
 use Rattle.std.specs.Prelude.{false}
 use Rattle.std.proofs.Common.{ap, arith, length-append}
@@ -25,7 +25,7 @@ pub by_read : {A P : Type 0} (x : Read A) → ((y : A × List Tok) → x ≡ Som
 by_read (Some y) f g = f y refl
 by_read None f g = g refl
 
--- where a value takes a token, less is left
+-- if every value takes a token, fewer tokens are left
 pub less_left : {A : Type 0} (g : Production A) (t : List Tok) (v : A) (r : List Tok) → 1 ≤ g.least
     → g.reads t ≡ Some (v, r) → length r < length t
 less_left g t v r consumes e =

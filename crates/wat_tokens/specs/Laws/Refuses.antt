@@ -1,4 +1,4 @@
--- Laws: what a refusal means, where it isn't known whether values may own memory.
+-- Laws: the meaning of an error, if it isn't known whether values may own memory.
 use Rattle.std.proofs.Common.{◌≡◌, ◌≢◌, Bool, true, false, None, Some, refl, ap, ◌∙◌}
 use Rattle.wat_tokens.specs.Error.{Fault, Memory}
 use Rattle.wat_tokens.specs.Parses.{NotBare, Refuses}
@@ -14,7 +14,7 @@ pub refused_memory : {A : Type 0} (own : Bool) (bare : A → Bool) (f : Fault) (
 refused_memory true bare f read p m = (refl, p.1 m)
 refused_memory false bare f read p m = absurd (p.1 m)
 
--- of what is made of what is read
+-- an error for a value that is made of the value read
 pub refused_as : {V W : Type 0} (own : Bool) (bare : V → Bool) (bare' : W → Bool) (make : V → W)
     → ((v : V) → bare' (make v) ≡ bare v) → (f : Fault) (read : Read V)
     → Refuses own bare f read → Refuses true bare' f (bind read (λ v r. Some (make v, r)))

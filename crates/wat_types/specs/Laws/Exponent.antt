@@ -32,7 +32,7 @@ none_below (suc m) n e =
     let less : 2 ^ m < n = omega (arith, e, doubles m, pow_pos m) in
     rw ((differ (2 ^ m) n less).1) (none_below m n (omega (arith, less)))
 
--- the exponent of a number from 2 to the k up to twice that
+-- k if n = 2 to the k, else None: the exponent of n if 2 ^ k ≤ n and n < 2 ^ (k + 1)
 abbrev decided_by : ℕ → ℕ → Option ℕ
 decided_by k n = if n == 2 ^ k then Some k else None
 

@@ -1,4 +1,4 @@
--- Laws: types of fields.
+-- Laws: field types.
 use Rattle.std.specs.Prelude.{◌≤◌}
 use Rattle.std.proofs.Common.{lit≤}
 use Rattle.wat_types.specs.Heap.{heap_type, abstract_heap_type}

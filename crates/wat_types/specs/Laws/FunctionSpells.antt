@@ -1,4 +1,4 @@
--- Laws: what function types spell.
+-- Laws: which tokens spell a function type.
 use Rattle.std.specs.Prelude.{Bool, List, flat_map}
 use Rattle.std.proofs.Common.{ap, sym}
 use Rattle.wat_tokens.specs.Token.{Tok}

@@ -1,4 +1,4 @@
--- Laws: groups in which no label may stand are those in which one may and none does.
+-- Laws: groups without labels are the labelled groups in which no parameter has a label.
 use Rattle.std.specs.Prelude.{◌≡◌, ℕ, true, false, not, ◌&&◌, List, [], ◌∷◌, ◌++◌, codes, Option}
 use Rattle.std.specs.Prelude.{Some, None, flat_map, refl}
 use Rattle.std.specs.Cmp.{first_so, second_so}
@@ -53,7 +53,7 @@ plain_unlabelled (p ∷ ps) c r s =
     subst (λ (q : ParamTy). (not (labelled q.label) && unlabelled ps) ≡ true) s.4.3
     (plain_unlabelled ps s.1 r s.5)
 
--- ---- what is in a param group
+-- ---- the content of a param group
 
 params_allow : (ps : List ParamTy) (c r : List Tok) → (params false).spells ps c r
     → (params true).spells ps c r × (unlabelled ps ≡ true)
@@ -61,7 +61,7 @@ unfolding params
 params_allow ps c r (inl s) = absurd (let f : false ≡ true = s.0 in cc)
 params_allow ps c r (inr s) = (inr (plain_no_label ps c r s.1, s.1), plain_unlabelled ps c r s.1)
 
--- a label is there, where one begins
+-- if the tokens begin a label, the label has an id or a name
 has_part : (i n : Option (List ℕ)) (d e r : List Tok) → opt_spells begins_id identifier i d (e ++ r)
     → opt_spells begins_name name_annotation n e r → begins_label (d ++ (e ++ r)) ≡ true
     → labelled (label_of i n) ≡ true
@@ -97,7 +97,7 @@ params_forbid ps c r (inr s) u = inr (refl, s.1)
 -- ---- groups
 
 module _ {A : Type 0} (w : List ℕ) (g h : Production A) (Q P : A → Type 0) where
-  -- what holds of the part in a group holds of the group
+  -- a fact about the part in a group carries over to the group
   group_maps : ((v : A) (c r : List Tok) → g.spells v c r → Q v → h.spells v c r × P v)
       → (v : A) (c r : List Tok) → (group w g).spells v c r → Q v → (group w h).spells v c r × P v
   group_maps f v c r s u =

@@ -4,7 +4,7 @@ use Rattle.wat_print.specs.Label.{none_labelled}
 use Rattle.wat_print.specs.Struct.{member_label}
 use Rattle.wat_print.proofs.structure.are_unlabelled.Given as goal
 
--- what is still to be tested decides
+-- the fields left decide the result
 abbrev pub invariant-loop-field : goal.invariant-loop-field
 invariant-loop-field l =
     none_labelled member_label (members_view (drop l.field-index l.fields))

@@ -3,7 +3,7 @@ use Rattle.wat_instr.specs.Instruction.{instruction_view}
 use Rattle.wat_print_instr.specs.FoldedForm.{first_apart}
 use Rattle.wat_print_instr.proofs.folded.find_apart.Given as goal
 
--- what is still to be looked at decides
+-- the remaining instructions decide the result
 abbrev pub invariant-loop-k : goal.invariant-loop-k
 invariant-loop-k l =
     first_apart (map instruction_view (take l.k l.instrs))

@@ -4,7 +4,7 @@ use Rattle.wat_print.specs.Label.{none_labelled}
 use Rattle.wat_print_module.specs.Local.{local_label}
 use Rattle.wat_print_module.proofs.local.are_unlabelled.Given as goal
 
--- what is still to be tested decides
+-- the remaining locals decide the result
 abbrev pub invariant-loop-local : goal.invariant-loop-local
 invariant-loop-local l =
     none_labelled local_label (locals_view (drop l.local-index l.locals))

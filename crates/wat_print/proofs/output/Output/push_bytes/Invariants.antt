@@ -2,7 +2,7 @@ use Rattle.std.proofs.Common.{◌≡◌, ◌++◌, drop, false}
 use Rattle.wat_print.specs.Text.{quoted_as}
 use Rattle.wat_print.proofs.output.Output.push_bytes.Given as goal
 
--- with what is still to be written, the page is what it is to become
+-- the page with the bytes left to write is the final page
 abbrev pub invariant-loop-b : goal.invariant-loop-b
 invariant-loop-b l =
     record l.self { bytes = l.self.bytes ++ quoted_as false (drop l.b-index l.bytes) }

@@ -1,4 +1,4 @@
--- `after` makes a value of no bytes, whose number is one more.
+-- `after` makes a value of no bytes, whose `count` is one more.
 use mathlib.Core.Path.{refl}
 use mathlib.Core.List.{[], ◌∷◌}
 use Prim.Native.Nat.{◌+◌}
