@@ -1,76 +1,103 @@
 -- How memory accesses and orderings are written.
-use Rattle.std.specs.Prelude.{ℕ, Bool, true, false, not, ◌&&◌, ◌||◌, ◌==◌, List, [], ◌∷◌, ◌++◌}
-use Rattle.std.specs.Prelude.{codes, Option, Some, None, is_none}
+use Rattle.std.specs.Prelude.{ℕ, Bool, true, not, ◌&&◌, ◌||◌, ◌==◌, codes, Option}
+use Rattle.std.specs.Prelude.{Some, None, is_none, option_map, ◌⊎◌}
 use Rattle.std.specs.Int.{is_power_of_two}
-use Rattle.wat_lexer.specs.Token.{Tok, Keyword}
-use Rattle.wat_operands.specs.Lanes.{LaneAccessTy}
-use Rattle.wat_operands.specs.Memory.{TargetTy, memory, array, MemArgTy}
+use Rattle.std.proofs.Common.{inl, inr}
+use Rattle.wat_tokens.specs.Index.{Idx}
+use Rattle.wat_tokens.specs.Tests.{begins_word}
+use Rattle.wat_operands.specs.Lanes.{LaneAccessTy, goes_on}
+use Rattle.wat_operands.specs.Memory.{TargetTy, memory, array, array_follows, begins_with, MemArgTy}
+use Rattle.wat_operands.specs.Ordering.{begins_ordering}
 use Rattle.wat_operands.specs.declared.lanes.LaneArg.{LaneArg}
 use Rattle.wat_operands.specs.declared.memory.MemArgOrdering.{MemArgOrdering}
 use Rattle.wat_operands.specs.declared.memory.MemArgOrdering.TheVariants.{Op, Rmw}
 use Rattle.wat_operands.specs.declared.ordering.Ordering.{Ordering}
 use Rattle.wat_operands.specs.declared.ordering.Ordering.TheVariants.{AcqRel, SeqCst}
-use Rattle.wat_print.specs.Before.{spell_number}
-use Rattle.wat_print.specs.Index.{spell_index, printable_index}
+use Rattle.wat_print.specs.Form.{Test, any, Form, word_form, seq_form, by, by_where, told_form}
+use Rattle.wat_print.specs.Form.{else_form, option_form, group_form}
+use Rattle.wat_print.specs.Index.{index_form}
 use Rattle.wat_print.specs.Limits.{is_u64}
-use Rattle.wat_print.specs.Parts.{grouped, spell_option}
-use Rattle.wat_print_instr.specs.Numbers.{numbered, is_unsigned}
-use Rattle.wat_print_instr.specs.Places.{spell_index_or_0}
+use Rattle.wat_print_instr.specs.Form.{default_form, next_form}
+use Rattle.wat_print_instr.specs.Numbers.{numbered_form, unsigned_form}
+use Rattle.wat_print_instr.specs.Places.{index_or_0_form}
 
 -- ---- targets, offsets and alignments
 
-abbrev pub spell_target : TargetTy → List Tok
-spell_target (memory i) = spell_index_or_0 i
-spell_target (array i) = grouped (codes "type") (spell_index i)
+-- the first token isn't the word `type`
+abbrev pub no_type : Test
+no_type r = not (begins_word (codes "type") r)
 
-abbrev pub printable_target : TargetTy → Bool
-printable_target (memory i) = printable_index i
-printable_target (array i) = printable_index i
+abbrev pub target_parts : TargetTy → Idx ⊎ Idx
+target_parts (array i) = inl i
+target_parts (memory i) = inr i
 
--- a word that ends in the number n, or nothing if the text omits n
-abbrev pub spell_unless : Bool → List ℕ → ℕ → List Tok
-spell_unless true front n = []
-spell_unless false front n = numbered front n ∷ []
+-- ( type idx ), or a memory, which is omitted if it is 0
+abbrev pub target_form : Form TargetTy
+target_form =
+    by target_parts (told_form no_type array_follows (group_form (codes "type") index_form)
+    index_or_0_form)
 
--- the offset unless the offset is 0, and the alignment unless the alignment is the default a
-abbrev pub spell_fields : ℕ → MemArgTy → List Tok
-spell_fields a m =
-    spell_unless (m.offset == 0) (codes "offset=") m.offset
-    ++ spell_unless (m.align == a) (codes "align=") m.align
+-- the offset unless the offset is 0
+abbrev pub offset_form : Form ℕ
+offset_form =
+    default_form is_u64 (begins_with (codes "offset=")) (λ n. n == 0)
+    (numbered_form (codes "offset=") is_u64)
 
--- with the default alignment a
-abbrev pub spell_access : ℕ → MemArgTy → List Tok
-spell_access a m = spell_target m.target ++ spell_fields a m
+-- a power of two of 64 bits
+abbrev pub is_alignment : ℕ → Bool
+is_alignment n = is_power_of_two n && is_u64 n
 
--- n is the default alignment a, or a power of two of 64 bits
-abbrev pub printable_alignment : ℕ → ℕ → Bool
-printable_alignment a n = (n == a) || (is_power_of_two n && is_u64 n)
+-- the alignment unless the alignment is the default a
+abbrev pub align_form : ℕ → Form ℕ
+align_form a =
+    default_form (λ n. (n == a) || is_alignment n) (begins_with (codes "align=")) (λ n. n == a)
+    (numbered_form (codes "align=") is_alignment)
 
--- an access apart from its ordering
-abbrev pub printable_place : ℕ → MemArgTy → Bool
-printable_place a m =
-    printable_target m.target && (is_u64 m.offset && printable_alignment a m.align)
+abbrev pub fields_form : ℕ → Form (ℕ × ℕ)
+fields_form a = next_form any offset_form (align_form a)
+
+-- a target, an offset and an alignment, with the default alignment a
+abbrev pub Place : Type 0
+Place = TargetTy × (ℕ × ℕ)
+
+abbrev pub place_form : ℕ → Form Place
+place_form a = next_form no_type target_form (fields_form a)
+
+abbrev pub place_of : MemArgTy → Place
+place_of m = (m.target, (m.offset, m.align))
 
 -- an access without an ordering
 abbrev pub printable_access : ℕ → MemArgTy → Bool
-printable_access a m = printable_place a m && is_none m.ordering
+printable_access a m = (place_form a).printable (place_of m) && is_none m.ordering
+
+abbrev pub access_form : ℕ → Form MemArgTy
+access_form a = by_where (printable_access a) place_of (place_form a)
 
 -- ---- orderings
 
-abbrev pub ordering_word : Ordering → List ℕ
-ordering_word AcqRel = codes "acqrel"
-ordering_word SeqCst = codes "seqcst"
+abbrev pub ordering_parts : Ordering → Unit {0} ⊎ Unit {0}
+ordering_parts SeqCst = inl tt
+ordering_parts AcqRel = inr tt
 
-abbrev pub spell_ordering : Ordering → List Tok
-spell_ordering o = Keyword (ordering_word o) ∷ []
+abbrev pub ordering_form : Form Ordering
+ordering_form =
+    by_where (λ _. true) ordering_parts (else_form (begins_word (codes "seqcst"))
+    (word_form (codes "seqcst")) (word_form (codes "acqrel")))
+
+-- an optional ordering
+abbrev pub fence_form : Form (Option Ordering)
+fence_form = option_form begins_ordering ordering_form
+
+-- an ordering, and the operand after it
+abbrev pub ordered_form : {A : Type 0} → Form A → Form (Ordering × A)
+ordered_form p = seq_form ordering_form p
 
 abbrev pub ordering_in : MemArgOrdering → Ordering
 ordering_in (Op o) = o
 ordering_in (Rmw o) = o
 
--- an atomic access, with the default alignment a
-abbrev pub spell_atomic : ℕ → MemArgTy → List Tok
-spell_atomic a m = spell_access a m ++ spell_option (λ o. spell_ordering (ordering_in o)) m.ordering
+abbrev pub atomic_parts : MemArgTy → Place × Option Ordering
+atomic_parts m = (place_of m, option_map ordering_in m.ordering)
 
 -- no ordering; or `Rmw` for a read-modify-write instruction, and `Op` for any other instruction
 abbrev pub printable_ordering : Bool → Option MemArgOrdering → Bool
@@ -79,26 +106,27 @@ printable_ordering rmw (Some (Op o)) = not rmw
 printable_ordering rmw (Some (Rmw o)) = rmw
 
 abbrev pub printable_atomic : ℕ → Bool → MemArgTy → Bool
-printable_atomic a rmw m = printable_place a m && printable_ordering rmw m.ordering
+printable_atomic a rmw m =
+    (place_form a).printable (place_of m) && printable_ordering rmw m.ordering
 
--- an ordering, and the operand after it
-abbrev pub spell_ordered : {A : Type 0} → (A → List Tok) → Ordering × A → List Tok
-spell_ordered spell v = spell_ordering v.0 ++ spell v.1
-
-abbrev pub printable_ordered : {A : Type 0} → (A → Bool) → Ordering × A → Bool
-printable_ordered printable v = printable v.1
+-- an atomic access, with the default alignment a
+abbrev pub atomic_form : ℕ → Bool → Form MemArgTy
+atomic_form a rmw =
+    by_where (printable_atomic a rmw) atomic_parts (next_form no_type (place_form a) fence_form)
 
 -- ---- lanes
 
-abbrev pub spell_lane : LaneArg → List Tok
-spell_lane l = spell_number l.lane
+abbrev pub lane_form : Form LaneArg
+lane_form = by (λ l. l.lane) (unsigned_form 8)
 
-abbrev pub printable_lane : LaneArg → Bool
-printable_lane l = is_unsigned 8 l.lane
-
--- with the default alignment a
-abbrev pub spell_lane_access : ℕ → LaneAccessTy → List Tok
-spell_lane_access a l = spell_access a l.memarg ++ spell_lane l.lane
+abbrev pub lane_access_parts : LaneAccessTy → Place × LaneArg
+lane_access_parts l = (place_of l.memarg, l.lane)
 
 abbrev pub printable_lane_access : ℕ → LaneAccessTy → Bool
-printable_lane_access a l = printable_access a l.memarg && printable_lane l.lane
+printable_lane_access a l = printable_access a l.memarg && lane_form.printable l.lane
+
+-- an access and its lane, with the default alignment a
+abbrev pub lane_access_form : ℕ → Form LaneAccessTy
+lane_access_form a =
+    record (by_where (printable_lane_access a) lane_access_parts
+    (seq_form (place_form a) lane_form)) { follows = λ r. no_type r && not (goes_on r) }

@@ -1,117 +1,138 @@
 -- How blocks, calls, the types of a `select`, casts, catch clauses and handlers are written.
-use Rattle.std.specs.Prelude.{Bool, true, ◌&&◌, List, [], ◌∷◌, ◌++◌, codes, flat_map, Option}
-use Rattle.wat_lexer.specs.Token.{Tok, Keyword}
+use Rattle.std.specs.Prelude.{ℕ, false, List, codes, Option, Some, None, ◌⊎◌}
+use Rattle.std.proofs.Common.{inl, inr}
 use Rattle.wat_tokens.specs.Index.{Idx}
-use Rattle.wat_tokens.specs.Spelled.{in_parens}
+use Rattle.wat_tokens.specs.Tests.{begins_word, begins_id}
+use Rattle.wat_types.specs.Label.{Label}
+use Rattle.wat_types.specs.Reference.{RefTy}
+use Rattle.wat_types.specs.Group.{FuncTy}
+use Rattle.wat_types.specs.Use.{UseTy}
 use Rattle.wat_types.specs.Value.{ValTy}
 use Rattle.wat_operands.specs.Block.{BlockTy}
 use Rattle.wat_operands.specs.Call.{CallTy}
 use Rattle.wat_operands.specs.Casts.{BranchTy}
 use Rattle.wat_operands.specs.CatchClause.{CatchTy}
-use Rattle.wat_operands.specs.Catches.{TryTy}
+use Rattle.wat_operands.specs.Catches.{TryTy, begins_catch}
 use Rattle.wat_operands.specs.Handler.{HandleTy, on_label, on_switch}
-use Rattle.wat_operands.specs.Handlers.{ResumeTy, ThrowTy}
+use Rattle.wat_operands.specs.Handlers.{begins_handler, ResumeTy, ThrowTy}
+use Rattle.wat_operands.specs.Select.{result_follows}
 use Rattle.wat_operands.specs.declared.catches.CatchKind.{CatchKind}
 use Rattle.wat_operands.specs.declared.catches.CatchKind.TheVariants.{Catch, CatchRef, CatchAll}
 use Rattle.wat_operands.specs.declared.catches.CatchKind.TheVariants.{CatchAllRef}
-use Rattle.wat_print.specs.Before.{spell_label, printable_label, spell_ref, printable_ref}
-use Rattle.wat_print.specs.Before.{spell_val, printable_val, spell_use, printable_unnamed_use}
-use Rattle.wat_print.specs.Index.{spell_index, printable_index}
-use Rattle.wat_print.specs.Parts.{grouped, spell_option, if_some, each}
-use Rattle.wat_print_instr.specs.Places.{spell_index_or_0}
+use Rattle.wat_print.specs.Form.{Form, word_form, seq_form, by, by_where, else_form, option_form}
+use Rattle.wat_print.specs.Form.{many_form, paren_form, after_form, group_form}
+use Rattle.wat_print.specs.Function.{vals_form}
+use Rattle.wat_print.specs.Index.{index_form}
+use Rattle.wat_print.specs.Label.{id_form, label_form, by_itself}
+use Rattle.wat_print.specs.Reference.{ref_form}
+use Rattle.wat_print.specs.Use.{unnamed_use_form}
+use Rattle.wat_print_instr.specs.Places.{index_or_0_form}
 
 -- ---- blocks and calls
 
--- id? name? TypeUse
-abbrev pub spell_block : BlockTy → List Tok
-spell_block b = spell_label b.label ++ spell_use b.ty
+abbrev pub block_parts : BlockTy → Label × UseTy FuncTy
+block_parts b = (b.label, b.ty)
 
-abbrev pub printable_block : BlockTy → Bool
-printable_block b = printable_label b.label && printable_unnamed_use b.ty
+-- id? name? TypeUse
+abbrev pub block_form : Form BlockTy
+block_form = by block_parts (seq_form label_form unnamed_use_form)
+
+abbrev pub call_parts : CallTy → Idx × UseTy FuncTy
+call_parts c = (c.table, c.ty)
 
 -- the table unless the table is 0, and the type
-abbrev pub spell_call : CallTy → List Tok
-spell_call c = spell_index_or_0 c.table ++ spell_use c.ty
+abbrev pub call_form : Form CallTy
+call_form = by call_parts (seq_form index_or_0_form unnamed_use_form)
 
-abbrev pub printable_call : CallTy → Bool
-printable_call c = printable_index c.table && printable_unnamed_use c.ty
+-- the label of an `else` or `end`
+abbrev pub end_label_form : Form (Option (List ℕ))
+end_label_form = option_form begins_id id_form
 
 -- ---- the types of a select
 
 -- ( result ValType* )
-abbrev pub spell_result : List ValTy → List Tok
-spell_result ts = grouped (codes "result") (flat_map spell_val ts)
+abbrev pub result_form : Form (List ValTy)
+result_form = group_form (codes "result") vals_form
 
-abbrev pub spell_select : Option (List ValTy) → List Tok
-spell_select ts = spell_option spell_result ts
+-- one group
+abbrev pub results_form : Form (List ValTy)
+results_form =
+    record (by_where vals_form.printable by_itself (many_form result_follows result_form)) {
+      spell = result_form.spell;
+      empty = false;
+    }
 
-abbrev pub printable_select : Option (List ValTy) → Bool
-printable_select ts = if_some (each printable_val) ts
+abbrev pub select_form : Form (Option (List ValTy))
+select_form = option_form result_follows results_form
 
 -- ---- casts
 
--- the label, the type to cast from, and the type to cast to
-abbrev pub spell_branch : BranchTy → List Tok
-spell_branch b = spell_index b.label ++ (spell_ref b.from_type ++ spell_ref b.to_type)
+abbrev pub branch_parts : BranchTy → Idx × (RefTy × RefTy)
+branch_parts b = (b.label, (b.from_type, b.to_type))
 
-abbrev pub printable_branch : BranchTy → Bool
-printable_branch b =
-    printable_index b.label && (printable_ref b.from_type && printable_ref b.to_type)
+-- the label, the type to cast from, and the type to cast to
+abbrev pub branch_form : Form BranchTy
+branch_form = by branch_parts (seq_form index_form (seq_form ref_form ref_form))
 
 -- ---- the catch clauses of a try_table
 
-abbrev pub spell_catch_kind : CatchKind Idx → List Tok
-spell_catch_kind (Catch i) = Keyword (codes "catch") ∷ spell_index i
-spell_catch_kind (CatchRef i) = Keyword (codes "catch_ref") ∷ spell_index i
-spell_catch_kind CatchAll = Keyword (codes "catch_all") ∷ []
-spell_catch_kind CatchAllRef = Keyword (codes "catch_all_ref") ∷ []
+abbrev pub catch_kind_parts : CatchKind Idx → Idx ⊎ (Idx ⊎ (Unit {0} ⊎ Unit {0}))
+catch_kind_parts (Catch i) = inl i
+catch_kind_parts (CatchRef i) = inr (inl i)
+catch_kind_parts CatchAll = inr (inr (inl tt))
+catch_kind_parts CatchAllRef = inr (inr (inr tt))
 
-abbrev pub printable_catch_kind : CatchKind Idx → Bool
-printable_catch_kind (Catch i) = printable_index i
-printable_catch_kind (CatchRef i) = printable_index i
-printable_catch_kind _ = true
+abbrev pub catch_kind_form : Form (CatchKind Idx)
+catch_kind_form =
+    by catch_kind_parts (else_form (begins_word (codes "catch"))
+    (after_form (codes "catch") index_form)
+    (else_form (begins_word (codes "catch_ref")) (after_form (codes "catch_ref") index_form)
+    (else_form (begins_word (codes "catch_all")) (word_form (codes "catch_all"))
+    (word_form (codes "catch_all_ref")))))
+
+abbrev pub catch_parts : CatchTy → CatchKind Idx × Idx
+catch_parts c = (c.kind, c.label)
 
 -- ( word tag? label )
-abbrev pub spell_catch : CatchTy → List Tok
-spell_catch c = in_parens (spell_catch_kind c.kind ++ spell_index c.label)
+abbrev pub catch_form : Form CatchTy
+catch_form = paren_form (by catch_parts (seq_form catch_kind_form index_form))
 
-abbrev pub printable_catch : CatchTy → Bool
-printable_catch c = printable_catch_kind c.kind && printable_index c.label
+abbrev pub try_parts : TryTy → BlockTy × List CatchTy
+try_parts t = (t.block, t.catches)
 
-abbrev pub spell_try : TryTy → List Tok
-spell_try t = spell_block t.block ++ flat_map spell_catch t.catches
-
-abbrev pub printable_try : TryTy → Bool
-printable_try t = printable_block t.block && each printable_catch t.catches
+abbrev pub try_form : Form TryTy
+try_form = by try_parts (seq_form block_form (many_form begins_catch catch_form))
 
 -- ---- handlers
 
+-- `switch`, or a label
+abbrev pub aim_parts : Option Idx → Unit {0} ⊎ Idx
+aim_parts None = inl tt
+aim_parts (Some l) = inr l
+
+abbrev pub aim_form : Form (Option Idx)
+aim_form =
+    by aim_parts (else_form (begins_word (codes "switch")) (word_form (codes "switch")) index_form)
+
+abbrev pub handler_parts : HandleTy → Idx × Option Idx
+handler_parts (on_label t l) = (t, Some l)
+handler_parts (on_switch t) = (t, None)
+
 -- ( on tag label ), or ( on tag switch )
-abbrev pub spell_handler : HandleTy → List Tok
-spell_handler (on_label t l) = grouped (codes "on") (spell_index t ++ spell_index l)
-spell_handler (on_switch t) =
-    grouped (codes "on") (spell_index t ++ Keyword (codes "switch") ∷ [])
+abbrev pub handler_form : Form HandleTy
+handler_form = group_form (codes "on") (by handler_parts (seq_form index_form aim_form))
 
-abbrev pub printable_handler : HandleTy → Bool
-printable_handler (on_label t l) = printable_index t && printable_index l
-printable_handler (on_switch t) = printable_index t
+abbrev pub resume_table_form : Form (List HandleTy)
+resume_table_form = many_form begins_handler handler_form
 
-abbrev pub spell_resume_table : List HandleTy → List Tok
-spell_resume_table hs = flat_map spell_handler hs
+abbrev pub resume_parts : ResumeTy → Idx × List HandleTy
+resume_parts r = (r.type_index, r.table)
 
-abbrev pub printable_resume_table : List HandleTy → Bool
-printable_resume_table hs = each printable_handler hs
+abbrev pub resume_form : Form ResumeTy
+resume_form = by resume_parts (seq_form index_form resume_table_form)
 
-abbrev pub spell_resume : ResumeTy → List Tok
-spell_resume r = spell_index r.type_index ++ spell_resume_table r.table
+abbrev pub throw_parts : ThrowTy → Idx × (Idx × List HandleTy)
+throw_parts r = (r.type_index, (r.tag_index, r.table))
 
-abbrev pub printable_resume : ResumeTy → Bool
-printable_resume r = printable_index r.type_index && printable_resume_table r.table
-
-abbrev pub spell_throw : ThrowTy → List Tok
-spell_throw r =
-    spell_index r.type_index ++ (spell_index r.tag_index ++ spell_resume_table r.table)
-
-abbrev pub printable_throw : ThrowTy → Bool
-printable_throw r =
-    printable_index r.type_index && (printable_index r.tag_index && printable_resume_table r.table)
+abbrev pub throw_form : Form ThrowTy
+throw_form = by throw_parts (seq_form index_form (seq_form index_form resume_table_form))

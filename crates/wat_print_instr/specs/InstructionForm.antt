@@ -2,7 +2,6 @@
 use Rattle.std.specs.Prelude.{ℕ, ℤ, Bool, true, false, ◌&&◌, ◌==◌, List, ◌∷◌, Option, Some, None}
 use Rattle.wat_lexer.specs.Token.{Tok, Keyword}
 use Rattle.wat_tokens.specs.Index.{Idx}
-use Rattle.wat_tokens.specs.Production.{Production}
 use Rattle.wat_types.specs.Heap.{HeapTy}
 use Rattle.wat_types.specs.Reference.{RefTy}
 use Rattle.wat_types.specs.Value.{ValTy}
@@ -29,20 +28,18 @@ use Rattle.wat_instr.specs.Operand.{Operand, nothing, block, label, one_index, t
 use Rattle.wat_instr.specs.Operand.{branches, call, chosen, access, ordered_index, ordered_indices}
 use Rattle.wat_instr.specs.Operand.{lane_access, lane, heap, sized, reference, cast, integer, float}
 use Rattle.wat_instr.specs.Operand.{fence, vector, shuffled, caught, resumed, thrown}
+use Rattle.wat_print.specs.Form.{Form, blank_form}
+use Rattle.wat_print.specs.Index.{index_form}
 use Rattle.wat_print.specs.Parts.{spell_option}
-use Rattle.wat_print.specs.Printed.{Printing}
-use Rattle.wat_print.specs.Printings.{index_printing, heap_printing, ref_printing}
-use Rattle.wat_print_instr.specs.Printings.{i32_printing, i64_printing, index_or_0_printing}
-use Rattle.wat_print_instr.specs.Printings.{pair_printing, init_printing, copy_printing}
-use Rattle.wat_print_instr.specs.Printings.{sized_printing, br_table_printing, access_printing}
-use Rattle.wat_print_instr.specs.Printings.{atomic_printing, ordered_printing, lane_printing}
-use Rattle.wat_print_instr.specs.Printings.{lane_access_printing, vector_printing}
-use Rattle.wat_print_instr.specs.Printings.{shuffle_printing, block_printing, call_printing}
-use Rattle.wat_print_instr.specs.Printings.{select_printing, branch_printing, try_printing}
-use Rattle.wat_print_instr.specs.Printings.{resume_printing, throw_printing, end_label_printing}
-use Rattle.wat_print_instr.specs.Printings.{fence_printing, number_printing, nothing_printing}
-use Rattle.wat_operands.specs.Tables.{index_or_0, index_pair}
-use Rattle.wat_tokens.specs.Index.{index}
+use Rattle.wat_print.specs.Reference.{heap_form, ref_form}
+use Rattle.wat_print_instr.specs.Access.{access_form, fence_form, ordered_form, atomic_form}
+use Rattle.wat_print_instr.specs.Access.{lane_form, lane_access_form}
+use Rattle.wat_print_instr.specs.Control.{block_form, call_form, end_label_form, select_form}
+use Rattle.wat_print_instr.specs.Control.{branch_form, try_form, resume_form, throw_form}
+use Rattle.wat_print_instr.specs.Numbers.{signed_form}
+use Rattle.wat_print_instr.specs.Places.{index_or_0_form, pair_form, init_form, copy_form}
+use Rattle.wat_print_instr.specs.Places.{sized_form, br_table_form}
+use Rattle.wat_print_instr.specs.Vectors.{never_form, vector_form, shuffle_form}
 
 -- ---- the value in an operand
 
@@ -153,75 +150,72 @@ abbrev pub passes : {A : Type 0} → (A → Bool) → Option A → Bool
 passes test (Some v) = test v
 passes test None = false
 
--- the tokens that are written for an operand, and whether the operand can be written
-pub record OperandForm : Type 0 where
-  pub spell : Operand → List Tok
-  pub printable : Operand → Bool
-
 -- an operand is written as the value that `from` finds in the operand
-abbrev pub form : {A : Type 0} {g : Production A} → (Operand → Option A) → Printing g → OperandForm
-form from p = record {
+abbrev pub found_form : {A : Type 0} → (Operand → Option A) → Form A → Form Operand
+found_form from p = record {
   spell = λ o. spell_option p.spell (from o);
   printable = λ o. passes p.printable (from o);
+  ready = λ o. passes p.ready (from o);
+  follows = p.follows;
+  empty = p.empty;
+  balanced = true;
+  Fronts = p.Fronts;
 }
 
 -- the operand after the word of the instruction
-abbrev pub operand_form : Op → OperandForm
-operand_form (ops.Block op) = form found_block block_printing
-operand_form (ops.Label op) = form found_label end_label_printing
-operand_form (ops.Scalar op) = form found_nothing nothing_printing
-operand_form (ops.Indexed op) = form found_one_index index_printing
-operand_form (ops.CallIndirect op) = form found_call call_printing
-operand_form (ops.Table op) = form found_one_index index_or_0_printing
-operand_form (ops.Access op) = form found_access (access_printing (access_align op))
-operand_form (ops.Memory op) = form found_one_index index_or_0_printing
-operand_form (ops.Struct op) = form found_two_indices pair_printing
-operand_form (ops.ArrayInit op) = form found_two_indices pair_printing
+abbrev pub operand_form : Op → Form Operand
+operand_form (ops.Block op) = found_form found_block block_form
+operand_form (ops.Label op) = found_form found_label end_label_form
+operand_form (ops.Scalar op) = found_form found_nothing blank_form
+operand_form (ops.Indexed op) = found_form found_one_index index_form
+operand_form (ops.CallIndirect op) = found_form found_call call_form
+operand_form (ops.Table op) = found_form found_one_index index_or_0_form
+operand_form (ops.Access op) = found_form found_access (access_form (access_align op))
+operand_form (ops.Memory op) = found_form found_one_index index_or_0_form
+operand_form (ops.Struct op) = found_form found_two_indices pair_form
+operand_form (ops.ArrayInit op) = found_form found_two_indices pair_form
 operand_form (ops.AtomicAccess op) =
-    form found_access (atomic_printing (atomic_access_align op) false)
-operand_form (ops.RmwAccess op) = form found_access (atomic_printing (rmw_access_align op) true)
-operand_form (ops.OrderedIndex op) =
-    form found_ordered_index (ordered_printing index index_printing)
-operand_form (ops.OrderedTable op) =
-    form found_ordered_index (ordered_printing index_or_0 index_or_0_printing)
-operand_form (ops.OrderedStruct op) =
-    form found_ordered_indices (ordered_printing index_pair pair_printing)
+    found_form found_access (atomic_form (atomic_access_align op) false)
+operand_form (ops.RmwAccess op) = found_form found_access (atomic_form (rmw_access_align op) true)
+operand_form (ops.OrderedIndex op) = found_form found_ordered_index (ordered_form index_form)
+operand_form (ops.OrderedTable op) = found_form found_ordered_index (ordered_form index_or_0_form)
+operand_form (ops.OrderedStruct op) = found_form found_ordered_indices (ordered_form pair_form)
 operand_form (ops.LaneAccess op) =
-    form found_lane_access (lane_access_printing (lane_access_align op))
-operand_form (ops.Lane op) = form found_lane lane_printing
-operand_form (ops.Vector op) = form found_nothing nothing_printing
-operand_form ops.br_table = form found_branches br_table_printing
-operand_form ops.select = form found_chosen select_printing
-operand_form ops.memory_init = form found_two_indices init_printing
-operand_form ops.memory_copy = form found_two_indices copy_printing
-operand_form ops.table_init = form found_two_indices init_printing
-operand_form ops.table_copy = form found_two_indices copy_printing
-operand_form ops.ref_null = form found_heap heap_printing
-operand_form ops.array_new_fixed = form found_sized sized_printing
-operand_form ops.array_new_data = form found_two_indices pair_printing
-operand_form ops.array_new_elem = form found_two_indices pair_printing
-operand_form ops.array_fill = form found_one_index index_printing
-operand_form ops.array_copy = form found_two_indices pair_printing
-operand_form ops.ref_test = form found_reference ref_printing
-operand_form ops.ref_cast = form found_reference ref_printing
-operand_form ops.br_on_cast = form found_cast branch_printing
-operand_form ops.br_on_cast_fail = form found_cast branch_printing
-operand_form ops.i32_const = form found_integer i32_printing
-operand_form ops.i64_const = form found_integer i64_printing
-operand_form ops.f32_const = form found_float number_printing
-operand_form ops.f64_const = form found_float number_printing
-operand_form ops.atomic_fence = form found_fence fence_printing
-operand_form ops.v128_const = form found_vector vector_printing
-operand_form ops.i8x16_shuffle = form found_shuffled shuffle_printing
-operand_form ops.try_table = form found_caught try_printing
-operand_form ops.cont_bind = form found_two_indices pair_printing
-operand_form ops.resume = form found_resumed resume_printing
-operand_form ops.resume_throw = form found_thrown throw_printing
-operand_form ops.resume_throw_ref = form found_resumed resume_printing
-operand_form ops.switch = form found_two_indices pair_printing
-operand_form ops.ref_cast_desc_eq = form found_reference ref_printing
-operand_form ops.br_on_cast_desc_eq = form found_cast branch_printing
-operand_form ops.br_on_cast_desc_eq_fail = form found_cast branch_printing
+    found_form found_lane_access (lane_access_form (lane_access_align op))
+operand_form (ops.Lane op) = found_form found_lane lane_form
+operand_form (ops.Vector op) = found_form found_nothing blank_form
+operand_form ops.br_table = found_form found_branches br_table_form
+operand_form ops.select = found_form found_chosen select_form
+operand_form ops.memory_init = found_form found_two_indices init_form
+operand_form ops.memory_copy = found_form found_two_indices copy_form
+operand_form ops.table_init = found_form found_two_indices init_form
+operand_form ops.table_copy = found_form found_two_indices copy_form
+operand_form ops.ref_null = found_form found_heap heap_form
+operand_form ops.array_new_fixed = found_form found_sized sized_form
+operand_form ops.array_new_data = found_form found_two_indices pair_form
+operand_form ops.array_new_elem = found_form found_two_indices pair_form
+operand_form ops.array_fill = found_form found_one_index index_form
+operand_form ops.array_copy = found_form found_two_indices pair_form
+operand_form ops.ref_test = found_form found_reference ref_form
+operand_form ops.ref_cast = found_form found_reference ref_form
+operand_form ops.br_on_cast = found_form found_cast branch_form
+operand_form ops.br_on_cast_fail = found_form found_cast branch_form
+operand_form ops.i32_const = found_form found_integer (signed_form 32)
+operand_form ops.i64_const = found_form found_integer (signed_form 64)
+operand_form ops.f32_const = found_form found_float never_form
+operand_form ops.f64_const = found_form found_float never_form
+operand_form ops.atomic_fence = found_form found_fence fence_form
+operand_form ops.v128_const = found_form found_vector vector_form
+operand_form ops.i8x16_shuffle = found_form found_shuffled shuffle_form
+operand_form ops.try_table = found_form found_caught try_form
+operand_form ops.cont_bind = found_form found_two_indices pair_form
+operand_form ops.resume = found_form found_resumed resume_form
+operand_form ops.resume_throw = found_form found_thrown throw_form
+operand_form ops.resume_throw_ref = found_form found_resumed resume_form
+operand_form ops.switch = found_form found_two_indices pair_form
+operand_form ops.ref_cast_desc_eq = found_form found_reference ref_form
+operand_form ops.br_on_cast_desc_eq = found_form found_cast branch_form
+operand_form ops.br_on_cast_desc_eq_fail = found_form found_cast branch_form
 
 -- ---- instructions
 

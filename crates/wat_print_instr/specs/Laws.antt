@@ -3,6 +3,7 @@ pub mod Expression
 pub mod ExpressionOnly
 pub mod Folded
 pub mod FoldedOnly
+pub mod Form
 pub mod Instruction
 pub mod Numbers
 pub mod OperandFront

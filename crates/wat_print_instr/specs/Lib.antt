@@ -16,6 +16,7 @@ pub mod Control
 pub mod ExpressionForm
 pub mod FoldedForm
 pub mod FoldedPrinting
+pub mod Form
 pub mod InstructionForm
 pub mod InstructionPrinting
 pub mod Laws

@@ -1,13 +1,15 @@
 -- How indices, pairs of indices, and branch tables are written.
-use Rattle.std.specs.Prelude.{ℕ, zero, Bool, true, false, ◌&&◌, if◌then◌else◌, List, [], ◌++◌}
-use Rattle.std.specs.Prelude.{flat_map}
-use Rattle.wat_lexer.specs.Token.{Tok}
-use Rattle.wat_tokens.specs.Index.{Idx, number}
+use Rattle.std.specs.Prelude.{ℕ, zero, Bool, true, false, not, ◌&&◌, if◌then◌else◌, List, [], ◌∷◌}
+use Rattle.std.specs.Prelude.{◌++◌, flat_map, ◌⊎◌}
+use Rattle.std.proofs.Common.{inl, inr}
+use Rattle.wat_tokens.specs.Index.{Idx, number, begins_index}
+use Rattle.wat_tokens.specs.Tests.{second}
 use Rattle.wat_operands.specs.Branch.{BrTableTy}
-use Rattle.wat_print.specs.Before.{spell_number}
-use Rattle.wat_print.specs.Index.{spell_index, printable_index}
+use Rattle.wat_print.specs.Form.{Form, behind_form, seq_form, by_where, told_form, many_form}
+use Rattle.wat_print.specs.Index.{printable_index, index_form}
 use Rattle.wat_print.specs.Parts.{each}
-use Rattle.wat_print_instr.specs.Numbers.{is_unsigned}
+use Rattle.wat_print_instr.specs.Form.{default_form}
+use Rattle.wat_print_instr.specs.Numbers.{unsigned_form}
 
 -- the number 0
 abbrev pub is_index_0 : Idx → Bool
@@ -15,33 +17,45 @@ is_index_0 (number zero) = true
 is_index_0 _ = false
 
 -- nothing for index 0
-abbrev pub spell_index_or_0 : Idx → List Tok
-spell_index_or_0 i = if is_index_0 i then [] else spell_index i
+abbrev pub index_or_0_form : Form Idx
+index_or_0_form = default_form printable_index begins_index is_index_0 index_form
 
-abbrev pub spell_pair : Idx × Idx → List Tok
-spell_pair p = spell_index p.0 ++ spell_index p.1
+abbrev pub pair_form : Form (Idx × Idx)
+pair_form = behind_form begins_index index_form index_form
 
-abbrev pub printable_pair : Idx × Idx → Bool
-printable_pair p = printable_index p.0 && printable_index p.1
+-- only the segment, if the target is 0
+abbrev pub init_parts : Idx × Idx → Idx × Idx ⊎ Idx
+init_parts p = if is_index_0 p.0 then inr p.1 else inl p
 
 -- the target unless the target is 0, and the segment
-abbrev pub spell_init : Idx × Idx → List Tok
-spell_init p = spell_index_or_0 p.0 ++ spell_index p.1
+abbrev pub init_form : Form (Idx × Idx)
+init_form =
+    by_where pair_form.printable init_parts
+    (told_form (λ r. not (begins_index r)) (second begins_index) pair_form index_form)
+
+abbrev pub both_0 : Idx × Idx → Bool
+both_0 p = is_index_0 p.0 && is_index_0 p.1
 
 -- nothing if both are 0
-abbrev pub spell_copy : Idx × Idx → List Tok
-spell_copy p = if is_index_0 p.0 && is_index_0 p.1 then [] else spell_pair p
+abbrev pub copy_form : Form (Idx × Idx)
+copy_form = default_form pair_form.printable begins_index both_0 pair_form
 
 -- the type, and the length
-abbrev pub spell_sized : Idx × ℕ → List Tok
-spell_sized p = spell_index p.0 ++ spell_number p.1
+abbrev pub sized_form : Form (Idx × ℕ)
+sized_form = seq_form index_form (unsigned_form 32)
 
-abbrev pub printable_sized : Idx × ℕ → Bool
-printable_sized p = printable_index p.0 && is_unsigned 32 p.1
-
--- the labels, and the default after them
-abbrev pub spell_br_table : BrTableTy → List Tok
-spell_br_table b = flat_map spell_index b.labels ++ spell_index b.default
+-- the first index, and the others
+abbrev pub table_from : List Idx → Idx → Idx × List Idx
+table_from [] d = (d, [])
+table_from (l ∷ ls) d = (l, ls ++ d ∷ [])
 
 abbrev pub printable_br_table : BrTableTy → Bool
 printable_br_table b = each printable_index b.labels && printable_index b.default
+
+-- the labels, and the default after them
+abbrev pub br_table_form : Form BrTableTy
+br_table_form =
+    record (by_where printable_br_table (λ b. table_from b.labels b.default)
+    (seq_form index_form (many_form begins_index index_form))) {
+      spell = λ b. flat_map index_form.spell b.labels ++ index_form.spell b.default;
+    }

@@ -1,22 +1,23 @@
 //! Printing of memory accesses, orderings and lanes.
 
-ghost use Rattle.std.specs.Prelude.{◌≡◌, ◌≢◌, OnOk, IfErr, true, false};
+ghost use Rattle.std.specs.Prelude.{◌≡◌, OnOk, IfErr, if◌then◌else◌, option_map};
+ghost use Rattle.std.specs.Prelude.{Some, None};
 ghost use Rattle.wat_operands.specs.Lanes.{lane_arg, lane_access_view};
 ghost use Rattle.wat_operands.specs.Memory.{target_view, mem_arg_view};
 ghost use Rattle.wat_operands.specs.Ordering.{ordering, ordered, ordered_view};
+ghost use Rattle.wat_print.specs.Limits.{is_u64};
 ghost use Rattle.wat_print.specs.Parts.{spell_option};
+ghost use Rattle.wat_print.specs.Prints.{Printed};
 ghost use Rattle.wat_print.specs.Text.{put};
 ghost use Rattle.wat_print.specs.declared.fault.Refused.TheVariants.{Memory};
-ghost use Rattle.wat_print_instr.specs.Access.{spell_target, printable_target, spell_access};
-ghost use Rattle.wat_print_instr.specs.Access.{printable_place, printable_access, spell_ordering};
-ghost use Rattle.wat_print_instr.specs.Access.{spell_atomic, printable_ordering, printable_atomic};
-ghost use Rattle.wat_print_instr.specs.Access.{ordering_in, spell_lane_access};
-ghost use Rattle.wat_print_instr.specs.Access.{printable_lane_access, printable_alignment};
-ghost use Rattle.wat_print_instr.specs.Access.{spell_lane, printable_lane, ordering_word};
+ghost use Rattle.wat_print_instr.specs.Access.{target_form, align_form, place_form};
+ghost use Rattle.wat_print_instr.specs.Access.{place_of, access_form, ordering_form, fence_form};
+ghost use Rattle.wat_print_instr.specs.Access.{ordering_in, printable_ordering, atomic_form};
+ghost use Rattle.wat_print_instr.specs.Access.{lane_form, lane_access_form};
+ghost use Rattle.wat_print_instr.specs.Numbers.{numbered_form};
 ghost use Rattle.wat_print_instr.specs.Printings.{ordering_printing, ordered_printing};
 ghost use Rattle.wat_print_instr.specs.Printings.{lane_printing};
 
-use crate::numbers::write_unless;
 use crate::places::write_index_or_0;
 use crate::traits::PrintCode;
 use wat_operands::{
@@ -28,10 +29,7 @@ use wat_print::{Output, Refused};
 /// Writes the target of an access: `( type idx )` for an array, or a memory. Memory 0 is omitted.
 #[tactic(auto, using(wat_print::specs::Laws::Written::put_both))]
 fn write_target(out: &mut Output, target: &MemArgTarget) -> Result<(), Refused>
-    ensures written { OnOk result (out.new ≡ put out.old (spell_target (target_view target.now))) }
-    ensures printable { OnOk result (printable_target (target_view target.now) ≡ true) }
-    ensures refused { IfErr result (λ e. e ≢ Memory
-        → printable_target (target_view target.now) ≡ false) }
+    ensures { Printed target_form (target_view target.now) result out.old out.new }
 {
     match target {
         MemArgTarget::Memory(index) => write_index_or_0(out, index),
@@ -46,9 +44,21 @@ fn write_target(out: &mut Output, target: &MemArgTarget) -> Result<(), Refused>
 
 /// Whether the alignment is the default, or a power of two.
 fn may_align(align: u64, default: u64) -> bool
-    ensures { result ≡ printable_alignment default align }
+    ensures { result ≡ (align_form default).printable align }
 {
     align == default || align.is_power_of_two()
+}
+
+/// Writes a word that ends in the number, or nothing if `is_meant`: the text omits the number.
+fn write_unless(out: &mut Output, is_meant: bool, front: &str, number: u64) -> Result<(), Refused>
+    ensures written { OnOk result (out.new ≡ put out.old (spell_option (numbered_form front.now
+        is_u64).spell (if is_meant then None else Some number))) }
+    ensures refused { IfErr result (λ e. e ≡ Memory) }
+{
+    if is_meant {
+        return Ok(());
+    }
+    out.numbered(front, number)
 }
 
 /// Writes the target, the offset and the alignment of an access, but not its ordering. Offset 0 and
@@ -56,11 +66,8 @@ fn may_align(align: u64, default: u64) -> bool
 /// default nor a power of two.
 #[tactic(auto, using(wat_print::specs::Laws::Written::put_both))]
 fn write_place(out: &mut Output, access: &MemArg, default: u64) -> Result<(), Refused>
-    ensures written { OnOk result (out.new ≡ put out.old
-        (spell_access default (mem_arg_view access.now))) }
-    ensures printable { OnOk result (printable_place default (mem_arg_view access.now) ≡ true) }
-    ensures refused { IfErr result (λ e. e ≢ Memory
-        → printable_place default (mem_arg_view access.now) ≡ false) }
+    ensures { Printed (place_form default) (place_of (mem_arg_view access.now)) result out.old
+        out.new }
 {
     if !may_align(access.align, default) {
         return Err(Refused::Alignment);
@@ -76,11 +83,7 @@ fn write_place(out: &mut Output, access: &MemArg, default: u64) -> Result<(), Re
 /// It fails with Ordering if the access has an ordering. It fails with Alignment if the alignment
 /// is neither the default nor a power of two.
 pub fn write_access(out: &mut Output, access: &MemArg, default: u64) -> Result<(), Refused>
-    ensures written { OnOk result (out.new ≡ put out.old
-        (spell_access default (mem_arg_view access.now))) }
-    ensures printable { OnOk result (printable_access default (mem_arg_view access.now) ≡ true) }
-    ensures refused { IfErr result (λ e. e ≢ Memory
-        → printable_access default (mem_arg_view access.now) ≡ false) }
+    ensures { Printed (access_form default) (mem_arg_view access.now) result out.old out.new }
 {
     if access.ordering.is_some() {
         return Err(Refused::Ordering);
@@ -88,22 +91,14 @@ pub fn write_access(out: &mut Output, access: &MemArg, default: u64) -> Result<(
     write_place(out, access, default)
 }
 
-/// The word of an ordering.
-fn word_of(ordering: Ordering) -> &'static str
-    ensures { result.now ≡ ordering_word ordering }
-{
-    match ordering {
-        Ordering::AcqRel => "acqrel",
-        Ordering::SeqCst => "seqcst",
-    }
-}
-
 /// Writes an ordering.
 pub(crate) fn write_ordering(out: &mut Output, ordering: Ordering) -> Result<(), Refused>
-    ensures written { OnOk result (out.new ≡ put out.old (spell_ordering ordering)) }
-    ensures refused { IfErr result (λ e. e ≡ Memory) }
+    ensures { Printed ordering_form ordering result out.old out.new }
 {
-    out.word(word_of(ordering))
+    match ordering {
+        Ordering::AcqRel => out.word("acqrel"),
+        Ordering::SeqCst => out.word("seqcst"),
+    }
 }
 
 /// Whether an atomic instruction can have the ordering. `rmw` is true for a read-modify-write
@@ -120,9 +115,7 @@ fn may_order(ordering: Option<MemArgOrdering>, rmw: bool) -> bool
 
 /// Writes the ordering of an access, if the access has one.
 fn write_access_ordering(out: &mut Output, ordering: Option<MemArgOrdering>) -> Result<(), Refused>
-    ensures written { OnOk result (out.new ≡ put out.old
-        (spell_option (λ o. spell_ordering (ordering_in o)) ordering)) }
-    ensures refused { IfErr result (λ e. e ≡ Memory) }
+    ensures { Printed fence_form (option_map ordering_in ordering) result out.old out.new }
 {
     match ordering {
         None => Ok(()),
@@ -145,12 +138,7 @@ pub fn write_atomic(
     default: u64,
     rmw: bool,
 ) -> Result<(), Refused>
-    ensures written { OnOk result (out.new ≡ put out.old
-        (spell_atomic default (mem_arg_view access.now))) }
-    ensures printable { OnOk result
-        (printable_atomic default rmw (mem_arg_view access.now) ≡ true) }
-    ensures refused { IfErr result (λ e. e ≢ Memory
-        → printable_atomic default rmw (mem_arg_view access.now) ≡ false) }
+    ensures { Printed (atomic_form default rmw) (mem_arg_view access.now) result out.old out.new }
 {
     if !may_order(access.ordering, rmw) {
         return Err(Refused::Ordering);
@@ -161,9 +149,7 @@ pub fn write_atomic(
 
 /// Writes a lane.
 fn write_lane(out: &mut Output, lane: &LaneArg) -> Result<(), Refused>
-    ensures written { OnOk result (out.new ≡ put out.old (spell_lane lane.now)) }
-    ensures printable { OnOk result (printable_lane lane.now ≡ true) }
-    ensures refused { IfErr result (λ e. e ≡ Memory) }
+    ensures { Printed lane_form lane.now result out.old out.new }
 {
     out.number(u64::from(lane.lane))
 }
@@ -176,12 +162,8 @@ pub fn write_lane_access(
     lane: &LoadOrStoreLane,
     default: u64,
 ) -> Result<(), Refused>
-    ensures written { OnOk result (out.new ≡ put out.old
-        (spell_lane_access default (lane_access_view lane.now))) }
-    ensures printable { OnOk result
-        (printable_lane_access default (lane_access_view lane.now) ≡ true) }
-    ensures refused { IfErr result (λ e. e ≢ Memory
-        → printable_lane_access default (lane_access_view lane.now) ≡ false) }
+    ensures { Printed (lane_access_form default) (lane_access_view lane.now) result out.old
+        out.new }
 {
     write_access(out, &lane.memarg, default)?;
     write_lane(out, &lane.lane)

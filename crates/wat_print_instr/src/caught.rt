@@ -1,6 +1,6 @@
 //! Printing of the catch clauses of a `try_table`, and of tables of handlers.
 
-ghost use Rattle.std.specs.Prelude.{◌≡◌, ◌≢◌, List, OnOk, IfErr, true, false};
+ghost use Rattle.std.specs.Prelude.{List};
 ghost use Rattle.wat_tokens.specs.Index.{index_view};
 ghost use Rattle.wat_operands.specs.CatchClause.{CatchTy, catch_clause};
 ghost use Rattle.wat_operands.specs.Catches.{catch_kind_view, catch_view, TryTy, try_view};
@@ -9,10 +9,8 @@ ghost use Rattle.wat_operands.specs.Handler.{HandleTy, handler};
 ghost use Rattle.wat_operands.specs.Handlers.{handle_view, resume_table_view, resume_table};
 ghost use Rattle.wat_operands.specs.Handlers.{ResumeTy, resume_view, resume_throw_ref_view, resume};
 ghost use Rattle.wat_operands.specs.Handlers.{ThrowTy, resume_throw_view, resume_throw};
-ghost use Rattle.wat_print.specs.Text.{put};
-ghost use Rattle.wat_print.specs.declared.fault.Refused.TheVariants.{Memory};
-ghost use Rattle.wat_print_instr.specs.Control.{spell_catch_kind, printable_catch_kind};
-ghost use Rattle.wat_print_instr.specs.Control.{spell_resume_table, printable_resume_table};
+ghost use Rattle.wat_print.specs.Prints.{Printed};
+ghost use Rattle.wat_print_instr.specs.Control.{catch_kind_form, resume_table_form};
 ghost use Rattle.wat_print_instr.specs.Printings.{catch_printing, try_printing, handler_printing};
 ghost use Rattle.wat_print_instr.specs.Printings.{resume_table_printing, resume_printing};
 ghost use Rattle.wat_print_instr.specs.Printings.{throw_printing};
@@ -28,12 +26,7 @@ use wat_print::{Output, Refused};
 
 /// Writes the word of a catch clause, and its tag if the clause has one.
 fn write_catch_kind(out: &mut Output, kind: &TryTableCatchKind) -> Result<(), Refused>
-    ensures written { OnOk result (out.new ≡ put out.old
-        (spell_catch_kind (catch_kind_view index_view kind.now))) }
-    ensures printable { OnOk result
-        (printable_catch_kind (catch_kind_view index_view kind.now) ≡ true) }
-    ensures refused { IfErr result (λ e. e ≢ Memory
-        → printable_catch_kind (catch_kind_view index_view kind.now) ≡ false) }
+    ensures { Printed catch_kind_form (catch_kind_view index_view kind.now) result out.old out.new }
 {
     match kind {
         CatchKind::Catch(tag) => {
@@ -113,11 +106,7 @@ impl PrintCode for Handle<'_> {
 
 /// Writes handlers in order.
 fn write_handlers(out: &mut Output, table: &ResumeTable) -> Result<(), Refused>
-    ensures written { OnOk result (out.new ≡ put out.old
-        (spell_resume_table (resume_table_view table.now))) }
-    ensures printable { OnOk result (printable_resume_table (resume_table_view table.now) ≡ true) }
-    ensures refused { IfErr result (λ e. e ≢ Memory
-        → printable_resume_table (resume_table_view table.now) ≡ false) }
+    ensures { Printed resume_table_form (resume_table_view table.now) result out.old out.new }
 {
     write_each(out, &table.handlers)
 }

@@ -1,6 +1,6 @@
 //! Printing of the types of blocks, calls, selects and casts.
 
-ghost use Rattle.std.specs.Prelude.{◌≡◌, ◌≢◌, List, Option, OnOk, IfErr, true, false, map};
+ghost use Rattle.std.specs.Prelude.{◌≡◌, List, Option, map};
 ghost use Rattle.wat_types.specs.Reference.{RefTy, ref_type};
 ghost use Rattle.wat_types.specs.Value.{ValTy, val_view};
 ghost use Rattle.wat_operands.specs.Block.{BlockTy, signature_view, block_view, block_type};
@@ -10,15 +10,13 @@ ghost use Rattle.wat_operands.specs.Casts.{branch_between, branch_view, branch_f
 ghost use Rattle.wat_operands.specs.Casts.{branch_desc_eq_view, branch_desc_eq_fail_view};
 ghost use Rattle.wat_operands.specs.Casts.{cast_branch};
 ghost use Rattle.wat_operands.specs.Select.{select_view, select_types};
-ghost use Rattle.wat_print.specs.Before.{printable_val, spell_use, printable_unnamed_use};
 ghost use Rattle.wat_print.specs.Function.{param_label};
 ghost use Rattle.wat_print.specs.Label.{none_labelled};
-ghost use Rattle.wat_print.specs.Parts.{if_some, each};
+ghost use Rattle.wat_print.specs.Parts.{if_some};
 ghost use Rattle.wat_print.specs.Printings.{ref_printing};
-ghost use Rattle.wat_print.specs.Text.{put};
-ghost use Rattle.wat_print.specs.declared.fault.Refused.TheVariants.{Memory};
-ghost use Rattle.wat_print_instr.specs.Control.{spell_block, printable_block, spell_branch};
-ghost use Rattle.wat_print_instr.specs.Control.{printable_branch, spell_result};
+ghost use Rattle.wat_print.specs.Prints.{Printed};
+ghost use Rattle.wat_print.specs.Use.{unnamed_use_form};
+ghost use Rattle.wat_print_instr.specs.Control.{block_form, results_form, branch_form};
 ghost use Rattle.wat_print_instr.specs.Printings.{block_printing, call_printing, select_printing};
 ghost use Rattle.wat_print_instr.specs.Printings.{branch_printing};
 
@@ -50,10 +48,7 @@ fn is_unlabelled(ty: &TypeUse<FunctionType>) -> bool
 /// Writes the type of a block or of a call: a type use without identifiers or names. It fails with
 /// Label if a parameter of the inline type has an identifier or a name.
 fn write_signature(out: &mut Output, ty: &TypeUse<FunctionType>) -> Result<(), Refused>
-    ensures written { OnOk result (out.new ≡ put out.old (spell_use (signature_view ty.now))) }
-    ensures printable { OnOk result (printable_unnamed_use (signature_view ty.now) ≡ true) }
-    ensures refused { IfErr result (λ e. e ≢ Memory
-        → printable_unnamed_use (signature_view ty.now) ≡ false) }
+    ensures { Printed unnamed_use_form (signature_view ty.now) result out.old out.new }
 {
     if !is_unlabelled(ty) {
         return Err(Refused::Label);
@@ -65,10 +60,7 @@ fn write_signature(out: &mut Output, ty: &TypeUse<FunctionType>) -> Result<(), R
 /// fails with Label if a parameter of the type has an identifier or a name.
 #[tactic(auto, using(wat_print::specs::Laws::Written::put_both))]
 pub fn write_block(out: &mut Output, block: &BlockType) -> Result<(), Refused>
-    ensures written { OnOk result (out.new ≡ put out.old (spell_block (block_view block.now))) }
-    ensures printable { OnOk result (printable_block (block_view block.now) ≡ true) }
-    ensures refused { IfErr result (λ e. e ≢ Memory
-        → printable_block (block_view block.now) ≡ false) }
+    ensures { Printed block_form (block_view block.now) result out.old out.new }
 {
     write_label(out, &block.label, &block.label_name)?;
     write_signature(out, &block.ty)
@@ -82,12 +74,8 @@ fn write_branch(
     from_type: &RefType,
     to_type: &RefType,
 ) -> Result<(), Refused>
-    ensures written { OnOk result (out.new ≡ put out.old
-        (spell_branch (branch_between label.now from_type.now to_type.now))) }
-    ensures printable { OnOk result
-        (printable_branch (branch_between label.now from_type.now to_type.now) ≡ true) }
-    ensures refused { IfErr result (λ e. e ≢ Memory
-        → printable_branch (branch_between label.now from_type.now to_type.now) ≡ false) }
+    ensures { Printed branch_form (branch_between label.now from_type.now to_type.now) result
+        out.old out.new }
 {
     write_index(out, label)?;
     write_ref(out, from_type)?;
@@ -126,11 +114,9 @@ impl PrintCode for CallIndirect<'_> {
 }
 
 /// Writes `( result ValType* )`.
+#[tactic(auto, using(wat_print::specs::Laws::Written::put_both))]
 fn write_result(out: &mut Output, types: &[ValType]) -> Result<(), Refused>
-    ensures written { OnOk result (out.new ≡ put out.old (spell_result (map val_view types.now))) }
-    ensures printable { OnOk result (each printable_val (map val_view types.now) ≡ true) }
-    ensures refused { IfErr result (λ e. e ≢ Memory
-        → each printable_val (map val_view types.now) ≡ false) }
+    ensures { Printed results_form (map val_view types.now) result out.old out.new }
 {
     out.open()?;
     out.word("result")?;

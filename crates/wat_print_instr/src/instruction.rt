@@ -1,17 +1,12 @@
 //! Printing of instructions.
 
-ghost use Rattle.std.specs.Prelude.{◌≡◌, ◌≢◌, OnOk, IfErr, true, false};
 ghost use Rattle.wat_tokens.specs.Index.{name_of};
 ghost use Rattle.wat_tokens.specs.Views.{option_view};
 ghost use Rattle.wat_instr.specs.Instruction.{Instr, op_in, operand_in, instruction_view};
 ghost use Rattle.wat_instr.specs.Instruction.{instruction, block_in};
-ghost use Rattle.wat_print.specs.Before.{spell_id};
-ghost use Rattle.wat_print.specs.WellFormed.{is_name};
-ghost use Rattle.wat_print.specs.Parts.{spell_option, if_some};
-ghost use Rattle.wat_print.specs.Text.{put};
-ghost use Rattle.wat_print.specs.declared.fault.Refused.TheVariants.{Memory};
-ghost use Rattle.wat_print_instr.specs.Access.{spell_ordering};
-ghost use Rattle.wat_print_instr.specs.Control.{spell_block, printable_block};
+ghost use Rattle.wat_print.specs.Prints.{Printed};
+ghost use Rattle.wat_print_instr.specs.Access.{fence_form};
+ghost use Rattle.wat_print_instr.specs.Control.{block_form, end_label_form};
 ghost use Rattle.wat_print_instr.specs.InstructionForm.{operand_form};
 ghost use Rattle.wat_print_instr.specs.InstructionPrinting.{instruction_printing};
 
@@ -26,11 +21,7 @@ use wat_tokens::Id;
 
 /// Writes the label of an `else` or `end`, if it has one.
 fn write_end_label(out: &mut Output, label: &Option<Id>) -> Result<(), Refused>
-    ensures written { OnOk result (out.new ≡ put out.old
-        (spell_option spell_id (option_view name_of label.now))) }
-    ensures printable { OnOk result (if_some is_name (option_view name_of label.now) ≡ true) }
-    ensures refused { IfErr result (λ e. e ≢ Memory
-        → if_some is_name (option_view name_of label.now) ≡ false) }
+    ensures { Printed end_label_form (option_view name_of label.now) result out.old out.new }
 {
     match label {
         Some(label) => out.id(label.name()),
@@ -40,9 +31,7 @@ fn write_end_label(out: &mut Output, label: &Option<Id>) -> Result<(), Refused>
 
 /// Writes the ordering of a fence, if the fence has one.
 fn write_fence(out: &mut Output, ordering: Option<Ordering>) -> Result<(), Refused>
-    ensures written { OnOk result (out.new ≡ put out.old
-        (spell_option spell_ordering (option_view (λ o. o) ordering))) }
-    ensures refused { IfErr result (λ e. e ≡ Memory) }
+    ensures { Printed fence_form (option_view (λ o. o) ordering) result out.old out.new }
 {
     match ordering {
         Some(ordering) => write_ordering(out, ordering),
@@ -52,10 +41,7 @@ fn write_fence(out: &mut Output, ordering: Option<Ordering>) -> Result<(), Refus
 
 /// Writes the label and the type of a block, or nothing if there is no box.
 fn write_said(out: &mut Output, block: &Option<Box<BlockType>>) -> Result<(), Refused>
-    ensures written { OnOk result (out.new ≡ put out.old (spell_block (block_in block.now))) }
-    ensures printable { OnOk result (printable_block (block_in block.now) ≡ true) }
-    ensures refused { IfErr result (λ e. e ≢ Memory
-        → printable_block (block_in block.now) ≡ false) }
+    ensures { Printed block_form (block_in block.now) result out.old out.new }
 {
     match block {
         Some(block) => write_block(out, block),
@@ -65,12 +51,8 @@ fn write_said(out: &mut Output, block: &Option<Box<BlockType>>) -> Result<(), Re
 
 /// Writes the operand of an instruction, without its word.
 fn write_operand(out: &mut Output, instr: &Instruction) -> Result<(), Refused>
-    ensures written { OnOk result (out.new ≡ put out.old
-        ((operand_form (op_in instr.now)).spell (operand_in instr.now))) }
-    ensures printable { OnOk result
-        ((operand_form (op_in instr.now)).printable (operand_in instr.now) ≡ true) }
-    ensures refused { IfErr result (λ e. e ≢ Memory
-        → (operand_form (op_in instr.now)).printable (operand_in instr.now) ≡ false) }
+    ensures { Printed (operand_form (op_in instr.now)) (operand_in instr.now) result out.old
+        out.new }
 {
     match instr {
         InstructionOf::Block(_, block) => write_said(out, block),

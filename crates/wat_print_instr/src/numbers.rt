@@ -1,15 +1,15 @@
 //! Printing of numbers.
 
-ghost use Rattle.std.specs.Prelude.{◌≡◌, ℕ, ℤ, OnOk, IfErr};
+ghost use Rattle.std.specs.Prelude.{◌≡◌, ◌∷◌, [], ℕ, ℤ, OnOk, IfErr};
+ghost use Rattle.std.specs.Fmt.{signed_decimal};
+ghost use Rattle.wat_lexer.specs.Token.{Integer};
 ghost use Rattle.wat_tokens.specs.Floats.{none};
 ghost use Rattle.wat_tokens.specs.Integers.{signed, unsigned};
 ghost use Rattle.wat_print.specs.Text.{put};
 ghost use Rattle.wat_print.specs.declared.fault.Refused.TheVariants.{Memory};
-ghost use Rattle.wat_print_instr.specs.Access.{spell_unless};
-ghost use Rattle.wat_print_instr.specs.Numbers.{spell_signed};
 ghost use Rattle.wat_print_instr.specs.Printings.{i8_printing, i16_printing, i32_printing};
 ghost use Rattle.wat_print_instr.specs.Printings.{i64_printing, u8_printing, u16_printing};
-ghost use Rattle.wat_print_instr.specs.Printings.{u32_printing, u64_printing, number_printing};
+ghost use Rattle.wat_print_instr.specs.Printings.{u32_printing, u64_printing, float_printing};
 
 use crate::traits::PrintCode;
 use wat_print::{Output, Refused};
@@ -17,27 +17,10 @@ use wat_tokens::{F32, F64};
 
 /// Writes a signed number in decimal digits. It fails only with Memory.
 pub fn write_signed(out: &mut Output, number: i64) -> Result<(), Refused>
-    ensures written { OnOk result (out.new ≡ put out.old (spell_signed number)) }
+    ensures written { OnOk result (out.new ≡ put out.old (Integer (signed_decimal number) ∷ [])) }
     ensures refused { IfErr result (λ e. e ≡ Memory) }
 {
     out.signed(number)
-}
-
-/// Writes a word that ends in the number, or nothing if `is_meant`: the text omits the number.
-pub(crate) fn write_unless(
-    out: &mut Output,
-    is_meant: bool,
-    front: &str,
-    number: u64,
-) -> Result<(), Refused>
-    ensures written { OnOk result (out.new ≡ put out.old (spell_unless is_meant front.now
-        number)) }
-    ensures refused { IfErr result (λ e. e ≡ Memory) }
-{
-    if is_meant {
-        return Ok(());
-    }
-    out.numbered(front, number)
 }
 
 impl PrintCode for i8 {
@@ -165,7 +148,7 @@ impl PrintCode for F32 {
 
     ghost grammar = { none };
 
-    ghost printing = { number_printing };
+    ghost printing = { float_printing };
 
     fn write(&self, out: &mut Output) -> Result<(), Refused> {
         let _ = out;
@@ -181,7 +164,7 @@ impl PrintCode for F64 {
 
     ghost grammar = { none };
 
-    ghost printing = { number_printing };
+    ghost printing = { float_printing };
 
     fn write(&self, out: &mut Output) -> Result<(), Refused> {
         let _ = out;

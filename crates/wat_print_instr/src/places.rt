@@ -1,6 +1,6 @@
 //! Printing of operands that consist of indices, and of an array's type and length.
 
-ghost use Rattle.std.specs.Prelude.{◌≡◌, ◌≢◌, ℕ, OnOk, IfErr, true, false};
+ghost use Rattle.std.specs.Prelude.{◌≡◌, ℕ};
 ghost use Rattle.wat_tokens.specs.Index.{Idx, index_view, index};
 ghost use Rattle.wat_operands.specs.Aggregates.{struct_access_view, cont_bind_view, switch_view};
 ghost use Rattle.wat_operands.specs.Aggregates.{array_fill_view, array_copy_view, array_init_view};
@@ -11,12 +11,10 @@ ghost use Rattle.wat_operands.specs.BranchTable.{br_table};
 ghost use Rattle.wat_operands.specs.Tables.{index_or_0, index_pair, init, copy, table_arg_view};
 ghost use Rattle.wat_operands.specs.Tables.{memory_arg_view, table_init_view, memory_init_view};
 ghost use Rattle.wat_operands.specs.Tables.{table_copy_view, memory_copy_view};
-ghost use Rattle.wat_print.specs.Index.{printable_index};
 ghost use Rattle.wat_print.specs.Printings.{index_printing};
-ghost use Rattle.wat_print.specs.Text.{put};
-ghost use Rattle.wat_print.specs.declared.fault.Refused.TheVariants.{Memory};
-ghost use Rattle.wat_print_instr.specs.Places.{is_index_0, spell_index_or_0, spell_pair};
-ghost use Rattle.wat_print_instr.specs.Places.{printable_pair, spell_init, spell_copy};
+ghost use Rattle.wat_print.specs.Prints.{Printed};
+ghost use Rattle.wat_print_instr.specs.Places.{is_index_0, index_or_0_form, pair_form, init_form};
+ghost use Rattle.wat_print_instr.specs.Places.{copy_form};
 ghost use Rattle.wat_print_instr.specs.Printings.{index_or_0_printing, pair_printing};
 ghost use Rattle.wat_print_instr.specs.Printings.{init_printing, copy_printing, sized_printing};
 ghost use Rattle.wat_print_instr.specs.Printings.{br_table_printing};
@@ -40,11 +38,7 @@ pub fn is_index_0(index: &Index) -> bool
 
 /// Writes an index, or nothing for index 0.
 pub fn write_index_or_0(out: &mut Output, index: &Index) -> Result<(), Refused>
-    ensures written { OnOk result (out.new ≡ put out.old
-        (spell_index_or_0 (index_view index.now))) }
-    ensures printable { OnOk result (printable_index (index_view index.now) ≡ true) }
-    ensures refused { IfErr result (λ e. e ≢ Memory
-        → printable_index (index_view index.now) ≡ false) }
+    ensures { Printed index_or_0_form (index_view index.now) result out.old out.new }
 {
     if is_index_0(index) {
         return Ok(());
@@ -55,39 +49,28 @@ pub fn write_index_or_0(out: &mut Output, index: &Index) -> Result<(), Refused>
 /// Writes two indices.
 #[tactic(auto, using(wat_print::specs::Laws::Written::put_both))]
 fn write_pair(out: &mut Output, first: &Index, second: &Index) -> Result<(), Refused>
-    ensures written { OnOk result (out.new ≡ put out.old
-        (spell_pair (index_view first.now, index_view second.now))) }
-    ensures printable { OnOk result
-        (printable_pair (index_view first.now, index_view second.now) ≡ true) }
-    ensures refused { IfErr result (λ e. e ≢ Memory
-        → printable_pair (index_view first.now, index_view second.now) ≡ false) }
+    ensures { Printed pair_form (index_view first.now, index_view second.now) result out.old
+        out.new }
 {
     write_index(out, first)?;
     write_index(out, second)
 }
 
 /// Writes a target and a segment. Target 0 is omitted.
-#[tactic(auto, using(wat_print::specs::Laws::Written::put_both))]
 fn write_init(out: &mut Output, target: &Index, segment: &Index) -> Result<(), Refused>
-    ensures written { OnOk result (out.new ≡ put out.old
-        (spell_init (index_view target.now, index_view segment.now))) }
-    ensures printable { OnOk result (printable_pair (index_view target.now, index_view segment.now)
-        ≡ true) }
-    ensures refused { IfErr result (λ e. e ≢ Memory
-        → printable_pair (index_view target.now, index_view segment.now) ≡ false) }
+    ensures { Printed init_form (index_view target.now, index_view segment.now) result out.old
+        out.new }
 {
-    write_index_or_0(out, target)?;
-    write_index(out, segment)
+    if is_index_0(target) {
+        return write_index(out, segment);
+    }
+    write_pair(out, target, segment)
 }
 
 /// Writes a destination and a source, or nothing if both are 0.
 fn write_copy(out: &mut Output, destination: &Index, source: &Index) -> Result<(), Refused>
-    ensures written { OnOk result (out.new ≡ put out.old
-        (spell_copy (index_view destination.now, index_view source.now))) }
-    ensures printable { OnOk result
-        (printable_pair (index_view destination.now, index_view source.now) ≡ true) }
-    ensures refused { IfErr result (λ e. e ≢ Memory
-        → printable_pair (index_view destination.now, index_view source.now) ≡ false) }
+    ensures { Printed copy_form (index_view destination.now, index_view source.now) result out.old
+        out.new }
 {
     if is_index_0(destination) && is_index_0(source) {
         return Ok(());
@@ -344,6 +327,7 @@ impl PrintCode for BrTableIndices<'_> {
 
     ghost printing = { br_table_printing };
 
+    #[tactic(auto, using(wat_print::specs::Laws::Written::put_both))]
     fn write(&self, out: &mut Output) -> Result<(), Refused> {
         write_each(out, &self.labels)?;
         write_index(out, &self.default)

@@ -1,18 +1,18 @@
 //! The values that are printed on one line.
 
-ghost use Rattle.std.specs.Prelude.{◌≡◌, ◌≢◌, OnOk, IfErr, true, false, map};
+ghost use Rattle.std.specs.Prelude.{map};
 ghost use Rattle.wat_tokens.specs.Production.{Production};
-ghost use Rattle.wat_print.specs.Parts.{each, Wrote};
+ghost use Rattle.wat_print.specs.Form.{any, many_form};
 ghost use Rattle.wat_print.specs.Printed.{Printing};
-ghost use Rattle.wat_print.specs.Text.{put};
-ghost use Rattle.wat_print.specs.declared.fault.Refused.TheVariants.{Memory};
+ghost use Rattle.wat_print.specs.Prints.{Printed};
+ghost use Rattle.wat_print_instr.specs.Form.{exactly};
 
 use wat_print::{Output, Print, Refused};
 
 /// A type whose values are written on one line. A printed value parses back to the same value.
 ///
-/// Its clauses are stronger than the clauses of [`Print`], which allow line breaks between tokens:
-/// they give the exact tokens that are written for a value.
+/// Its clause is stronger than the clause of [`Print`], which allows line breaks between tokens: it
+/// gives the exact tokens that are written for a value.
 pub trait PrintCode {
     /// The view of a value in contracts.
     ghost View: { Type 0 };
@@ -31,10 +31,7 @@ pub trait PrintCode {
     /// For a value that can't be written it fails with the first reason that it meets; for any
     /// other value it fails only with Memory. The tokens written before an error stay written.
     fn write(&self, out: &mut Output) -> Result<(), Refused>
-        ensures written { OnOk result (out.new ≡ put out.old (printing.spell (view self.now))) }
-        ensures printable { OnOk result (printing.printable (view self.now) ≡ true) }
-        ensures refused { IfErr result (λ e. e ≢ Memory
-            → printing.printable (view self.now) ≡ false) };
+        ensures { Printed (exactly printing) (view self.now) result out.old out.new };
 }
 
 /// A value in the form that [`wat_print::print`] accepts.
@@ -57,11 +54,10 @@ impl<T: PrintCode> Print for Code<'_, T> {
 }
 
 /// Writes values in order. It fails with the first error of a value.
+#[tactic(auto, using(std::proofs::lemmas::List::drop_more, wat_print::specs::Laws::Written::put_both))]
 pub fn write_each<T: PrintCode>(out: &mut Output, values: &[T]) -> Result<(), Refused>
-    ensures wrote { OnOk result (Wrote T.view T.printing.spell T.printing.printable values.now
-        out.old out.new) }
-    ensures refused { IfErr result (λ e. e ≢ Memory
-        → each T.printing.printable (map T.view values.now) ≡ false) }
+    ensures { Printed (many_form any (exactly T.printing)) (map T.view values.now) result out.old
+        out.new }
 {
     for value in values {
         value.write(out)?;

@@ -11,7 +11,7 @@ use Rattle.std.proofs.lemmas.Str.{is_utf8-from_IsUtf8, IsUtf8-from_ascii}
 use Rattle.wat_lexer.specs.Token.{Tok, LParen, RParen, Keyword, String}
 use Rattle.wat_tokens.specs.Tests.{begins_word, ends, second}
 use Rattle.wat_operands.specs.Align.{past_front}
-use Rattle.wat_mnemonics.specs.Ops.{op_word}
+use Rattle.wat_mnemonics.specs.Ops.{op_word, op_row}
 use Rattle.wat_mnemonics.specs.Laws.Places.{there, place_below, table_length}
 use Rattle.wat_mnemonics.specs.Order.{first}
 use Rattle.wat_mnemonics.specs.Places.{op_of_row, place}
@@ -142,24 +142,27 @@ steps_word w n (x ∷ xs) = step_word w n x.hint x.instr (flat_map spell_step xs
 
 -- the second token isn't w: neither an operand nor the rest begins with w
 step_second : (w : List ℕ) → NoOperandWord w → (h : Option ℕ) (i : Instr) (s t : List Tok)
+    → if_some (printable_hint i) h && printable_instruction i ≡ true
     → begins_word w s ≡ false → begins_word w t ≡ false
     → second (begins_word w) ((spell_step (step_of h i) ++ s) ++ t) ≡ false
-step_second w a (Some v) i s t e f = refl
-step_second w a None i s t e f =
+step_second w a (Some v) i s t k e f = refl
+step_second w a None i s t k e f =
     let m = op_of_row i.row in
     let c = (operand_form m).spell i.operand in
-    clear_both w (c ++ s) t (clear_both w c s (operand_clear w a m i.operand) e) f
+    let b = and_parts (op_row m == i.row) ((operand_form m).printable i.operand) k in
+    clear_both w (c ++ s) t (clear_both w c s (operand_clear w a m i.operand b.1) e) f
 
 pub no_word_at_end : (w : List ℕ) (r : List Tok) → ends r ≡ true → begins_word w r ≡ false
 no_word_at_end w r e = fails_at_end (begins_word w) refl (λ x. refl) r e
 
 steps_second : (w : List ℕ) → NoOperandWord w → NoMnemonic w
-    → (xs : List HintedInstr) (r : List Tok)
+    → (xs : List HintedInstr) (r : List Tok) → each printable_step xs ≡ true
     → ends r ≡ true → second (begins_word w) r ≡ false
     → second (begins_word w) (flat_map spell_step xs ++ r) ≡ false
-steps_second w a n [] r e f = f
-steps_second w a n (x ∷ xs) r e f =
-    step_second w a x.hint x.instr (flat_map spell_step xs) r (steps_word w n xs)
+steps_second w a n [] r k e f = f
+steps_second w a n (x ∷ xs) r k e f =
+    step_second w a x.hint x.instr (flat_map spell_step xs) r
+    (and_parts (printable_step x) (each printable_step xs) k).0 (steps_word w n xs)
     (no_word_at_end w r e)
 
 -- ---- the first tokens of an expression
@@ -177,13 +180,18 @@ expression_first test f g e r k =
     expression_of (λ c. test (c ++ r) ≡ false) k (λ xs. (steps_first test f g xs r k))
     (steps_from 0 e.instrs e.hints)
 
--- the second token of an expression isn't the word
+found_second : (w : List ℕ) → NoOperandWord w → NoMnemonic w → (o : Option (List HintedInstr))
+    (r : List Tok) → passes (each printable_step) o ≡ true → ends r ≡ true
+    → second (begins_word w) r ≡ false
+    → second (begins_word w) (spell_option (flat_map spell_step) o ++ r) ≡ false
+found_second w a n (Some xs) r f k l = steps_second w a n xs r f k l
+found_second w a n None r f k l = absurd cc
+
+-- the second token of a printable expression isn't the word
 pub expression_second : (w : List ℕ) → NoOperandWord w → NoMnemonic w → (e : Expr) (r : List Tok)
-    → ends r ≡ true → second (begins_word w) r ≡ false
+    → printable_expression e ≡ true → ends r ≡ true → second (begins_word w) r ≡ false
     → second (begins_word w) (spell_expression e ++ r) ≡ false
-expression_second w a n e r k l =
-    expression_of (λ c. second (begins_word w) (c ++ r) ≡ false) l
-    (λ xs. (steps_second w a n xs r k l)) (steps_from 0 e.instrs e.hints)
+expression_second w a n e r f k l = found_second w a n (steps_from 0 e.instrs e.hints) r f k l
 
 no_type : NoMnemonic (codes "type")
 no_type h = (word_unsought h).no_type
@@ -198,12 +206,12 @@ no_result h = (word_unsought h).no_result
 abbrev pub EndsExpression : List Tok → Type 0
 EndsExpression r = (ends r ≡ true) × NoTypeSecond r
 
-pub expression_no_type : (e : Expr) (r : List Tok) → EndsExpression r
-    → NoTypeSecond (spell_expression e ++ r)
-expression_no_type e r k = (
-  expression_second (codes "type") refl no_type e r k.0 k.1.0,
-  expression_second (codes "param") refl no_param e r k.0 k.1.1,
-  expression_second (codes "result") refl no_result e r k.0 k.1.2,
+pub expression_no_type : (e : Expr) (r : List Tok) → printable_expression e ≡ true
+    → EndsExpression r → NoTypeSecond (spell_expression e ++ r)
+expression_no_type e r f k = (
+  expression_second (codes "type") refl no_type e r f k.0 k.1.0,
+  expression_second (codes "param") refl no_param e r f k.0 k.1.1,
+  expression_second (codes "result") refl no_result e r f k.0 k.1.2,
 )
 
 -- ---- the tokens that may follow an instruction
@@ -244,14 +252,14 @@ step_ends : {w : Op} (h : Option ℕ) (i : Instr) (s t : List Tok)
 step_ends (Some v) i s t n = ends_annotation (codes "metadata.code.branch_hint") _ refl
 step_ends None i s t n = word_ends (op_of_row i.row) _ n
 
-steps_ends : {w : Op} (xs : List HintedInstr) (r : List Tok) → EndsExpression r
-    → EndsOperand w (flat_map spell_step xs ++ r)
-steps_ends [] r e = end_ends r e
-steps_ends (x ∷ xs) r e =
+steps_ends : {w : Op} (xs : List HintedInstr) (r : List Tok) → each printable_step xs ≡ true
+    → EndsExpression r → EndsOperand w (flat_map spell_step xs ++ r)
+steps_ends [] r k e = end_ends r e
+steps_ends (x ∷ xs) r k e =
     step_ends x.hint x.instr (flat_map spell_step xs) r (
-      steps_second (codes "type") refl no_type (x ∷ xs) r e.0 e.1.0,
-      steps_second (codes "param") refl no_param (x ∷ xs) r e.0 e.1.1,
-      steps_second (codes "result") refl no_result (x ∷ xs) r e.0 e.1.2,
+      steps_second (codes "type") refl no_type (x ∷ xs) r k e.0 e.1.0,
+      steps_second (codes "param") refl no_param (x ∷ xs) r k e.0 e.1.1,
+      steps_second (codes "result") refl no_result (x ∷ xs) r k e.0 e.1.2,
     )
 
 -- ---- steps are items
@@ -289,7 +297,7 @@ steps_listed (x ∷ xs) s f e =
     subst (λ (u : List Tok). lists (items_of (x ∷ xs)) u s)
     (sym (append_assoc (spell_step x) (flat_map spell_step xs) s))
     (one_listed x.hint x.instr xs (flat_map spell_step xs ++ s) s a.0 (steps_listed xs s a.1 e)
-    (steps_ends xs s e))
+    (steps_ends xs s a.1 e))
 
 -- the items of steps unfold to the instructions and hints of the steps
 abbrev Unfolds : ℕ → List Instr → List (ℕ × ℕ) → Option (List HintedInstr) → Type 0

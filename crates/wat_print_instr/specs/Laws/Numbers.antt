@@ -17,12 +17,16 @@ use Rattle.wat_lexer.specs.declared.number.Sign.TheVariants.{Plus, Minus}
 use Rattle.wat_tokens.specs.Integers.{signed, signed_of, unsigned, unsigned_of}
 use Rattle.wat_print.specs.Before.{spell_number}
 use Rattle.wat_print.specs.Text.{all_are}
+use Rattle.wat_print.specs.Limits.{OfIntegers}
+use Rattle.wat_print.specs.Prints.{Prints}
 use Rattle.wat_print.specs.WellFormed.{is_printable, is_given, WellFormed}
+use Rattle.wat_print.specs.Laws.Form.{one_prints}
 use Rattle.wat_print.specs.Laws.Numbers.{magnitude_decimal, decimal_printable, no_sign}
 use Rattle.wat_print.specs.Laws.Numbers.{digits_idchars, unsigned_decimal, unsigned_fits}
 use Rattle.wat_print.specs.Laws.Only.{OnlyPrintable, only_one}
 use Rattle.wat_print.specs.Laws.Parts.{Spells, well_formed_one}
-use Rattle.wat_print_instr.specs.Numbers.{Halves, spell_signed, is_signed, is_unsigned}
+use Rattle.wat_print_instr.specs.Numbers.{Halves, is_signed, signed_form, is_unsigned}
+use Rattle.wat_print_instr.specs.Numbers.{unsigned_form}
 
 pub same_number : (n : ℕ) → (n == n) ≡ true
 same_number n = grind (arith, nat_tests)
@@ -44,10 +48,6 @@ signed_text bits (negsuc n) k h =
     let e : nat_le (suc n) (2 ^ (bits - 1)) ≡ true = grind (arith, nat_tests) in
     rw (magnitude_decimal (suc n) lt, e) refl
 
-pub signed_here : (bits : ℕ) (z : ℤ) → Halves bits → is_signed bits z ≡ true
-    → Spells (signed bits) z (spell_signed z)
-signed_here bits z k h r = (Integer (signed_decimal z), refl, signed_text bits z k h)
-
 signed_printable : (bits : ℕ) (z : ℤ) → Halves bits → is_signed bits z ≡ true
     → is_printable (Integer (signed_decimal z)) ≡ true
 signed_printable bits (pos n) k h =
@@ -58,11 +58,6 @@ signed_printable bits (negsuc n) k h =
     let lt : suc n < 2 ^ 64 = omega (arith, k.whole, k.fits, k.some) in
     let d = decimal_is_IsNumeral (suc n) lt in
     rw (digits_idchars (decimal (suc n)) d.0.1, magnitude_decimal (suc n) lt) refl
-
-pub signed_well_formed : (bits : ℕ) (z : ℤ) → Halves bits → is_signed bits z ≡ true
-    → WellFormed (spell_signed z)
-signed_well_formed bits z k h =
-    well_formed_one (Integer (signed_decimal z)) (signed_printable bits z k h)
 
 -- the number with the bits of n
 complement_is : (bits n : ℕ) → Halves bits → nat_le n (2 ^ bits - 1) ≡ true
@@ -112,8 +107,11 @@ signed_given bits k (Integer x) z a e =
 signed_given bits k LParen z a e = absurd cc
 signed_given bits k _ z a e = absurd cc
 
-pub signed_only : (bits : ℕ) → Halves bits → OnlyPrintable (signed bits) (is_signed bits)
-signed_only bits k = only_one (signed_of bits) (refl, refl) (is_signed bits) (signed_given bits k)
+pub signed_prints : (bits : ℕ) → Halves bits → Prints (signed_form bits) (signed bits)
+signed_prints bits k =
+    one_prints (signed_of bits) (refl, refl) (λ z. Integer (signed_decimal z)) (is_signed bits)
+    OfIntegers (λ rest test f z y h i. f (signed_decimal z) y i)
+    (λ z h. signed_printable bits z k h) (λ z h. signed_text bits z k h) (signed_given bits k)
 
 -- the four widths
 pub halves_8 : Halves 8
@@ -130,32 +128,35 @@ halves_64 = record { whole = refl; some = lit≤ tt; fits = lit≤ tt }
 
 -- ---- unsigned numbers
 
-pub unsigned_here : (bits n : ℕ) → 2 ^ bits ≤ 2 ^ 64 → is_unsigned bits n ≡ true
-    → Spells (unsigned bits) n (spell_number n)
-unsigned_here bits n le h r =
-    let lt : n < 2 ^ bits = ltb-true n (2 ^ bits) h in
-    (Integer (decimal n), refl, unsigned_decimal bits n (omega arith) (omega arith))
+pub unsigned_printable : (bits n : ℕ) → 2 ^ bits ≤ 2 ^ 64 → is_unsigned bits n ≡ true
+    → is_printable (Integer (decimal n)) ≡ true
+unsigned_printable bits n le h =
+    let lt : n < 2 ^ bits = ltb-true n (2 ^ bits) h in decimal_printable n (omega arith)
 
-pub unsigned_well_formed : (bits n : ℕ) → 2 ^ bits ≤ 2 ^ 64 → is_unsigned bits n ≡ true
-    → WellFormed (spell_number n)
-unsigned_well_formed bits n le h =
+unsigned_text : (bits n : ℕ) → 2 ^ bits ≤ 2 ^ 64 → is_unsigned bits n ≡ true
+    → unsigned_value bits (decimal n) ≡ Some n
+unsigned_text bits n le h =
     let lt : n < 2 ^ bits = ltb-true n (2 ^ bits) h in
-    well_formed_one (Integer (decimal n)) (decimal_printable n (omega arith))
+    unsigned_decimal bits n (omega arith) (omega arith)
 
 pub unsigned_found : (bits : ℕ) → 1 ≤ 2 ^ bits → (x : List ℕ) (n : ℕ)
     → unsigned_value bits x ≡ Some n → is_unsigned bits n ≡ true
 unsigned_found bits p x n e =
     let le = unsigned_fits bits x n e in lt-ltb n (2 ^ bits) (omega arith)
 
-pub unsigned_given : (bits : ℕ) → 1 ≤ 2 ^ bits → (t : Tok) (n : ℕ) → is_given t ≡ true
+unsigned_given : (bits : ℕ) → 1 ≤ 2 ^ bits → (t : Tok) (n : ℕ) → is_given t ≡ true
     → unsigned_of bits t ≡ Some n → is_unsigned bits n ≡ true
 unsigned_given bits p (Integer x) n a e = unsigned_found bits p x n e
 unsigned_given bits p LParen n a e = absurd cc
 unsigned_given bits p _ n a e = absurd cc
 
-pub unsigned_only : (bits : ℕ) → 1 ≤ 2 ^ bits → OnlyPrintable (unsigned bits) (is_unsigned bits)
-unsigned_only bits p =
-    only_one (unsigned_of bits) (refl, refl) (is_unsigned bits) (unsigned_given bits p)
+pub unsigned_prints : (bits : ℕ) → 2 ^ bits ≤ 2 ^ 64 → 1 ≤ 2 ^ bits
+    → Prints (unsigned_form bits) (unsigned bits)
+unsigned_prints bits le p =
+    one_prints (unsigned_of bits) (refl, refl) (λ n. Integer (decimal n)) (is_unsigned bits)
+    OfIntegers (λ rest test f n y h k. f (decimal n) y k)
+    (λ n h. unsigned_printable bits n le h) (λ n h. unsigned_text bits n le h)
+    (unsigned_given bits p)
 
 -- ---- words that end in a number
 
@@ -164,3 +165,18 @@ number_text n lt = unsigned_decimal 64 n lt (omega arith)
 
 pub number_chars : (n : ℕ) → n < 2 ^ 64 → all_are is_idchar (decimal n) ≡ true
 number_chars n lt = digits_idchars (decimal n) (decimal_is_IsNumeral n lt).0.1
+
+-- ---- the former names, for crates whose printings aren't forms
+
+pub unsigned_here : (bits n : ℕ) → 2 ^ bits ≤ 2 ^ 64 → is_unsigned bits n ≡ true
+    → Spells (unsigned bits) n (spell_number n)
+unsigned_here bits n le h r = (Integer (decimal n), refl, unsigned_text bits n le h)
+
+pub unsigned_well_formed : (bits n : ℕ) → 2 ^ bits ≤ 2 ^ 64 → is_unsigned bits n ≡ true
+    → WellFormed (spell_number n)
+unsigned_well_formed bits n le h =
+    well_formed_one (Integer (decimal n)) (unsigned_printable bits n le h)
+
+pub unsigned_only : (bits : ℕ) → 1 ≤ 2 ^ bits → OnlyPrintable (unsigned bits) (is_unsigned bits)
+unsigned_only bits p =
+    only_one (unsigned_of bits) (refl, refl) (is_unsigned bits) (unsigned_given bits p)

@@ -1,33 +1,32 @@
--- Laws: round trips of indices, pairs of indices, and branch tables.
-use Rattle.std.specs.Prelude.{◌≡◌, ℕ, zero, suc, true, false, ◌&&◌, List, [], ◌∷◌, ◌++◌}
-use Rattle.std.specs.Prelude.{flat_map, Option, Some, None, unwrap_or}
-use Rattle.std.proofs.Common.{refl, ap, subst, sym, ◌∙◌, append_assoc, append-nil, inl, inr, lit≤}
-use Rattle.std.proofs.lemmas.Bool.{and_parts, cond_both}
+-- Laws: indices, pairs of indices, and branch tables are read again.
+use Rattle.std.specs.Prelude.{◌≡◌, zero, suc, true, not, ◌&&◌, List, [], ◌∷◌, ◌++◌}
+use Rattle.std.specs.Prelude.{flat_map, ◌⊎◌}
+use Rattle.std.proofs.Common.{rules, refl, ap, sym, ◌∙◌, append_assoc, append-nil, inl, inr, lit≤}
+use Rattle.std.proofs.lemmas.Bool.{and_parts}
 use Rattle.std.proofs.lemmas.Grind.{flat_map-append}
 use Rattle.wat_lexer.specs.Token.{Tok}
-use Rattle.wat_tokens.specs.Index.{Idx, number, name, index, begins_index}
-use Rattle.wat_tokens.specs.Integers.{unsigned}
-use Rattle.wat_tokens.specs.Parts.{seq}
+use Rattle.wat_tokens.specs.Index.{Idx, number, name, begins_index}
 use Rattle.wat_tokens.specs.Production.{Production}
+use Rattle.wat_tokens.specs.Parts.{seq}
 use Rattle.wat_tokens.specs.Tests.{second}
 use Rattle.wat_operands.specs.Aggregates.{array_of_length}
-use Rattle.wat_operands.specs.Branch.{BrTableTy, br_table_of, BrTableSpells, indices}
+use Rattle.wat_operands.specs.Branch.{br_table_of, BrTableSpells, split, split_list}
 use Rattle.wat_operands.specs.BranchTable.{br_table}
+use Rattle.wat_operands.specs.Laws.Branch.{br_table_to, br_table_from}
 use Rattle.wat_operands.specs.Tables.{index_or_0, index_pair, init, into_0, copy}
-use Rattle.wat_print.specs.Before.{spell_number}
+use Rattle.wat_print.specs.Form.{pick}
 use Rattle.wat_print.specs.Index.{spell_index, printable_index}
-use Rattle.wat_print.specs.WellFormed.{WellFormed, nothing, is_given}
-use Rattle.wat_print.specs.Parts.{each, if_some}
-use Rattle.wat_print.specs.Laws.Only.{OnlyPrintable, only_where, only_opt, only_seq, only_made}
-use Rattle.wat_print.specs.Laws.Only.{only_weaker, only_many}
-use Rattle.wat_print.specs.Laws.Parts.{Spells, many_here, well_formed_both, well_formed_each}
-use Rattle.wat_print.specs.Laws.Parts.{each_both, each_front}
-use Rattle.wat_print.specs.Laws.Reference.{index_here, index_well_formed, index_only}
-use Rattle.wat_print_instr.specs.Numbers.{is_unsigned}
-use Rattle.wat_print_instr.specs.Places.{is_index_0, spell_index_or_0, spell_pair, printable_pair}
-use Rattle.wat_print_instr.specs.Places.{spell_init, spell_copy, spell_sized, printable_sized}
-use Rattle.wat_print_instr.specs.Places.{spell_br_table, printable_br_table}
-use Rattle.wat_print_instr.specs.Laws.Numbers.{unsigned_here, unsigned_well_formed, unsigned_only}
+use Rattle.wat_print.specs.Parts.{each}
+use Rattle.wat_print.specs.Prints.{Prints}
+use Rattle.wat_print.specs.Laws.Form.{behind_prints, seq_prints, made_prints, told_prints}
+use Rattle.wat_print.specs.Laws.Form.{many_prints, restated_prints, respelled, whole_where}
+use Rattle.wat_print.specs.Laws.Parts.{each_both}
+use Rattle.wat_print.specs.Laws.Reference.{index_prints}
+use Rattle.wat_print_instr.specs.Places.{is_index_0, index_or_0_form, pair_form, init_parts}
+use Rattle.wat_print_instr.specs.Places.{init_form, both_0, copy_form, sized_form, table_from}
+use Rattle.wat_print_instr.specs.Places.{printable_br_table, br_table_form}
+use Rattle.wat_print_instr.specs.Laws.Form.{default_prints}
+use Rattle.wat_print_instr.specs.Laws.Numbers.{unsigned_prints}
 
 -- ---- one part, and then another
 
@@ -38,186 +37,93 @@ both_here g h v w c d r s t = (c, d, refl, s, t)
 
 -- ---- one index, or no index
 
-pub index_begins : (i : Idx) (x : List Tok) → begins_index (spell_index i ++ x) ≡ true
-index_begins (number n) x = refl
-index_begins (name n) x = refl
+is_0 : (i : Idx) → is_index_0 i ≡ true → number 0 ≡ i
+is_0 (number zero) e = refl
+is_0 (number (suc n)) e = absurd cc
+is_0 (name x) e = absurd cc
 
--- if the index is 0, nothing is written, and the rest begins with no index
-pub index_or_0_here : (i : Idx) (r : List Tok) → printable_index i ≡ true
-    → (is_index_0 i ≡ true → begins_index r ≡ false)
-    → index_or_0.spells i (spell_index_or_0 i) r
+pub index_or_0_prints : Prints index_or_0_form index_or_0
 unfolding index_or_0
-index_or_0_here (number zero) r f e = (None, (refl, e refl), refl, refl)
-index_or_0_here (number (suc n)) r f e =
-    (Some (number (suc n)), (refl, index_here (number (suc n)) f r), refl, refl)
-index_or_0_here (name x) r f e = (Some (name x), (refl, index_here (name x) f r), refl, refl)
-
-pub index_or_0_well_formed : (i : Idx) → printable_index i ≡ true → WellFormed (spell_index_or_0 i)
-index_or_0_well_formed i f =
-    cond_both (is_index_0 i) [] (spell_index i) (λ (c : List Tok). WellFormed c) (λ e. nothing)
-    (λ e. (index_well_formed i f))
-
-or_0_printable : (o : Option Idx) → if_some printable_index o ≡ true
-    → printable_index (unwrap_or o (number 0)) ≡ true
-or_0_printable (Some i) h = h
-or_0_printable None h = refl
-
-pub index_or_0_only : OnlyPrintable index_or_0 printable_index
-unfolding index_or_0
-index_or_0_only =
-    only_made (λ _. true) (λ o. unwrap_or o (number 0)) printable_index
-    (only_weaker (λ o. printable_index (unwrap_or o (number 0))) or_0_printable
-    (only_opt begins_index index_only))
+index_or_0_prints =
+    default_prints begins_index index_prints (search rules) printable_index is_index_0 (number 0)
+    is_0 (λ i e h. h) (λ i h. h) refl
 
 -- ---- two indices
 
-pub pair_here : (p : Idx × Idx) → printable_pair p ≡ true → Spells index_pair p (spell_pair p)
+pub pair_prints : Prints pair_form index_pair
 unfolding index_pair
-pair_here p f r =
-    let a = and_parts (printable_index p.0) (printable_index p.1) f in
-    both_here index index p.0 p.1 (spell_index p.0) (spell_index p.1) r
-    (index_here p.0 a.0 (spell_index p.1 ++ r)) (index_here p.1 a.1 r)
+pair_prints = behind_prints begins_index index_prints index_prints (search rules) (search rules)
 
-pub pair_well_formed : (p : Idx × Idx) → printable_pair p ≡ true → WellFormed (spell_pair p)
-pair_well_formed p f =
-    let a = and_parts (printable_index p.0) (printable_index p.1) f in
-    well_formed_both (spell_index p.0) (spell_index p.1) (index_well_formed p.0 a.0)
-    (index_well_formed p.1 a.1)
+pair_second : (p : Idx × Idx) (r : List Tok) → pair_form.ready p ≡ true
+    → second begins_index (pair_form.spell p ++ r) ≡ true
+pair_second p r h =
+    pair_prints.front (λ t. true) (second begins_index) (search rules) p r h refl tt
 
-pub pair_only : OnlyPrintable index_pair printable_pair
-unfolding index_pair
-pair_only = only_seq index_only index_only
+init_whole : (i j : Idx) → pick (λ (p : Idx × Idx). p) into_0 (init_parts (i, j)) ≡ (i, j)
+init_whole (number zero) j = refl
+init_whole (number (suc n)) j = refl
+init_whole (name x) j = refl
 
--- ---- a target and a segment
+init_ready : (i j : Idx) → printable_index i && printable_index j ≡ true
+    → pick pair_form.ready printable_index (init_parts (i, j)) ≡ true
+init_ready (number zero) j h = h
+init_ready (number (suc n)) j h = h
+init_ready (name x) j h = h
 
-alone_here : (i : Idx) (r : List Tok) → printable_index i ≡ true → begins_index r ≡ false
-    → init.spells (number 0, i) (spell_index i) r
+init_covers : (v : Idx × Idx ⊎ Idx) → pick pair_form.printable printable_index v ≡ true
+    → pair_form.printable (pick (λ (p : Idx × Idx). p) into_0 v) ≡ true
+init_covers (inl p) h = h
+init_covers (inr i) h = h
+
+pub init_prints : Prints init_form init
 unfolding init
-alone_here (number n) r f e = inr (e, (number n, index_here (number n) f r, refl, refl))
-alone_here (name x) r f e = inr (e, (name x, index_here (name x) f r, refl, refl))
+init_prints =
+    whole_where (told_prints (λ r. not (begins_index r)) (second begins_index) pair_prints
+    (made_prints index_prints into_0) (λ p r h e. pair_second p r h) (search rules)) init_parts
+    pair_form.printable (λ p h. init_whole p.0 p.1) (λ p h. init_ready p.0 p.1 h) init_covers
 
-target_first : (i j : Idx) (r : List Tok) → printable_pair (i, j) ≡ true
-    → init.spells (i, j) (spell_pair (i, j)) r
-unfolding init
-target_first (number n) (number m) r f = inl (refl, pair_here (number n, number m) f r)
-target_first (number n) (name y) r f = inl (refl, pair_here (number n, name y) f r)
-target_first (name x) (number m) r f = inl (refl, pair_here (name x, number m) f r)
-target_first (name x) (name y) r f = inl (refl, pair_here (name x, name y) f r)
+are_0 : (i j : Idx) → both_0 (i, j) ≡ true → ◌≡◌ {A = Idx × Idx} (number 0, number 0) (i, j)
+are_0 i j e =
+    let a = and_parts (is_index_0 i) (is_index_0 j) e in
+    rw (sym (is_0 i a.0), sym (is_0 j a.1)) refl
 
--- if the rest begins with no index
-init_by : (i j : Idx) (r : List Tok) → printable_pair (i, j) ≡ true → begins_index r ≡ false
-    → init.spells (i, j) (spell_init (i, j)) r
-init_by (number zero) j r f e = alone_here j r f e
-init_by (number (suc n)) j r f e = target_first (number (suc n)) j r f
-init_by (name x) j r f e = target_first (name x) j r f
-
-pub init_here : (p : Idx × Idx) (r : List Tok) → printable_pair p ≡ true → begins_index r ≡ false
-    → init.spells p (spell_init p) r
-init_here p r f e = init_by p.0 p.1 r f e
-
-pub init_well_formed : (p : Idx × Idx) → printable_pair p ≡ true → WellFormed (spell_init p)
-init_well_formed p f =
-    let a = and_parts (printable_index p.0) (printable_index p.1) f in
-    well_formed_both (spell_index_or_0 p.0) (spell_index p.1) (index_or_0_well_formed p.0 a.0)
-    (index_well_formed p.1 a.1)
-
-pub init_only : OnlyPrintable init printable_pair
-unfolding init
-init_only =
-    only_where (second begins_index) pair_only
-    (only_made (λ _. true) into_0 printable_pair
-    (only_weaker (λ i. printable_pair (into_0 i)) (λ i h. h)
-    index_only))
-
--- ---- a destination and a source
-
-written_pair : (p : Idx × Idx) (r : List Tok) → printable_pair p ≡ true
-    → copy.spells p (spell_pair p) r
+pub copy_prints : Prints copy_form copy
 unfolding copy
-written_pair p r f = (
-  Some p,
-  (
-    subst (λ (c : List Tok). begins_index c ≡ true)
-        (sym (append_assoc (spell_index p.0) (spell_index p.1) r))
-        (index_begins p.0 (spell_index p.1 ++ r)),
-    pair_here p f r,
-  ),
-  refl,
-  refl,
-)
-
--- if the rest begins with no index
-copy_by : (i j : Idx) (r : List Tok) → printable_pair (i, j) ≡ true → begins_index r ≡ false
-    → copy.spells (i, j) (spell_copy (i, j)) r
-unfolding copy
-copy_by (number zero) (number zero) r f e = (None, (refl, e), refl, refl)
-copy_by (number zero) (number (suc m)) r f e = written_pair (number zero, number (suc m)) r f
-copy_by (number zero) (name y) r f e = written_pair (number zero, name y) r f
-copy_by (number (suc n)) j r f e = written_pair (number (suc n), j) r f
-copy_by (name x) j r f e = written_pair (name x, j) r f
-
-pub copy_here : (p : Idx × Idx) (r : List Tok) → printable_pair p ≡ true → begins_index r ≡ false
-    → copy.spells p (spell_copy p) r
-copy_here p r f e = copy_by p.0 p.1 r f e
-
-pub copy_well_formed : (p : Idx × Idx) → printable_pair p ≡ true → WellFormed (spell_copy p)
-copy_well_formed p f =
-    cond_both (is_index_0 p.0 && is_index_0 p.1) [] (spell_pair p) (λ (c : List Tok). WellFormed c)
-    (λ e. nothing) (λ e. (pair_well_formed p f))
-
-or_both_0_printable : (o : Option (Idx × Idx)) → if_some printable_pair o ≡ true
-    → printable_pair (unwrap_or o (number 0, number 0)) ≡ true
-or_both_0_printable (Some p) h = h
-or_both_0_printable None h = refl
-
-pub copy_only : OnlyPrintable copy printable_pair
-unfolding copy
-copy_only =
-    only_made (λ _. true) (λ o. unwrap_or o (number 0, number 0)) printable_pair
-    (only_weaker (λ o. printable_pair (unwrap_or o (number 0, number 0))) or_both_0_printable
-    (only_opt begins_index pair_only))
+copy_prints =
+    default_prints begins_index pair_prints (search rules) pair_form.printable both_0
+    (number 0, number 0) (λ p e. are_0 p.0 p.1 e) (λ p e h. h) (λ p h. h) refl
 
 -- ---- an index and a length
 
-pub sized_here : (p : Idx × ℕ) → printable_sized p ≡ true → Spells array_of_length p (spell_sized p)
+pub sized_prints : Prints sized_form array_of_length
 unfolding array_of_length
-sized_here p f r =
-    let a = and_parts (printable_index p.0) (is_unsigned 32 p.1) f in
-    both_here index (unsigned 32) p.0 p.1 (spell_index p.0) (spell_number p.1) r
-    (index_here p.0 a.0 (spell_number p.1 ++ r)) (unsigned_here 32 p.1 (lit≤ tt) a.1 r)
-
-pub sized_well_formed : (p : Idx × ℕ) → printable_sized p ≡ true → WellFormed (spell_sized p)
-sized_well_formed p f =
-    let a = and_parts (printable_index p.0) (is_unsigned 32 p.1) f in
-    well_formed_both (spell_index p.0) (spell_number p.1) (index_well_formed p.0 a.0)
-    (unsigned_well_formed 32 p.1 (lit≤ tt) a.1)
-
-pub sized_only : OnlyPrintable array_of_length printable_sized
-unfolding array_of_length
-sized_only = only_seq index_only (unsigned_only 32 (lit≤ tt))
+sized_prints =
+    seq_prints index_prints (unsigned_prints 32 (lit≤ tt) (lit≤ tt)) (search rules)
 
 -- ---- the labels of a branch table
 
-all_here : (i : Idx) (is : List Idx) (r : List Tok) → each printable_index (i ∷ is) ≡ true
-    → begins_index r ≡ false → indices.spells (i, is) (flat_map spell_index (i ∷ is)) r
-all_here i is r f e =
-    let a = and_parts (printable_index i) (each printable_index is) f in (
-      spell_index i,
-      flat_map spell_index is,
-      refl,
-      index_here i a.0 (flat_map spell_index is ++ r),
-      many_here begins_index index spell_index printable_index index_here
-          (λ j x o. (index_begins j x)) is
-          r
-          a.1 e,
-    )
+split_last : (l : Idx) (ls : List Idx) (d : Idx)
+    → split l (ls ++ d ∷ []) ≡ br_table_of (l ∷ ls) d
+split_last l [] d = refl
+split_last l (m ∷ ls) d = rw (split_last m ls d) refl
 
--- the labels, and the default after them
-table_by : (ls : List Idx) (d : Idx) (r : List Tok) → each printable_index (ls ++ d ∷ []) ≡ true
-    → begins_index r ≡ false
-    → BrTableSpells (br_table_of ls d) (flat_map spell_index (ls ++ d ∷ [])) r
-table_by [] d r f e = (d, [], all_here d [] r f e, refl)
-table_by (l ∷ ls) d r f e = (l, ls ++ d ∷ [], all_here l (ls ++ d ∷ []) r f e, refl)
+table_whole : (ls : List Idx) (d : Idx) → split_list (table_from ls d) ≡ br_table_of ls d
+table_whole [] d = refl
+table_whole (l ∷ ls) d = split_last l ls d
+
+table_ready : (ls : List Idx) (d : Idx) → each printable_index ls && printable_index d ≡ true
+    → printable_index (table_from ls d).0 && each printable_index (table_from ls d).1 ≡ true
+table_ready [] d h = rw h refl
+table_ready (l ∷ ls) d h =
+    let a = and_parts (each printable_index (l ∷ ls)) (printable_index d) h in
+    each_both printable_index (l ∷ ls) (d ∷ []) a.0 (rw (a.1) refl)
+
+table_covers : (i : Idx) (is : List Idx) → printable_index i && each printable_index is ≡ true
+    → printable_br_table (split i is) ≡ true
+table_covers i [] h = (and_parts (printable_index i) true h).0
+table_covers i (j ∷ js) h =
+    let a = and_parts (printable_index i) (each printable_index (j ∷ js)) h in
+    rw (a.0) (table_covers j js a.1)
 
 default_last : (ls : List Idx) (d : Idx)
     → flat_map spell_index (ls ++ d ∷ []) ≡ flat_map spell_index ls ++ spell_index d
@@ -225,39 +131,21 @@ default_last ls d =
     flat_map-append spell_index ls (d ∷ [])
     ∙ ap (λ (c : List Tok). flat_map spell_index ls ++ c) (append-nil (spell_index d))
 
-all_printable : (b : BrTableTy) → printable_br_table b ≡ true
-    → each printable_index (b.labels ++ b.default ∷ []) ≡ true
-all_printable b f =
-    let a = and_parts (each printable_index b.labels) (printable_index b.default) f in
-    each_both printable_index b.labels (b.default ∷ []) a.0 (rw (a.1) refl)
+table_spelled : (ls : List Idx) (d : Idx)
+    → spell_index (table_from ls d).0 ++ flat_map spell_index (table_from ls d).1
+    ≡ flat_map spell_index ls ++ spell_index d
+table_spelled [] d = append-nil (spell_index d)
+table_spelled (l ∷ ls) d =
+    ap (λ (c : List Tok). spell_index l ++ c) (default_last ls d)
+    ∙ sym (append_assoc (spell_index l) (flat_map spell_index ls) (spell_index d))
 
--- if the rest begins with no index
-pub br_table_here : (b : BrTableTy) (r : List Tok) → printable_br_table b ≡ true
-    → begins_index r ≡ false → br_table.spells b (spell_br_table b) r
+pub br_table_prints : Prints br_table_form br_table
 unfolding br_table
-br_table_here b r f e =
-    subst (λ (c : List Tok). BrTableSpells b c r) (default_last b.labels b.default)
-    (table_by b.labels b.default r (all_printable b f) e)
-
-pub br_table_well_formed : (b : BrTableTy) → printable_br_table b ≡ true
-    → WellFormed (spell_br_table b)
-br_table_well_formed b f =
-    let a = and_parts (each printable_index b.labels) (printable_index b.default) f in
-    well_formed_both (flat_map spell_index b.labels) (spell_index b.default)
-    (well_formed_each spell_index printable_index index_well_formed b.labels a.0)
-    (index_well_formed b.default a.1)
-
-indices_only : OnlyPrintable indices (λ v. printable_index v.0 && each printable_index v.1)
-indices_only = only_seq index_only (only_many begins_index (lit≤ tt) index_only)
-
-table_holds : (b : BrTableTy) (c r : List Tok) → each is_given c ≡ true → BrTableSpells b c r
-    → printable_br_table b ≡ true
-table_holds b c r a s =
-    let f : each printable_index (s.0 ∷ s.1) ≡ true = indices_only.holds (s.0, s.1) c r a s.2 in
-    let g = each_front printable_index b.labels (b.default ∷ [])
-    (subst (λ (is : List Idx). each printable_index is ≡ true) s.3 f) in
-    rw (g.0) (and_parts (printable_index b.default) true g.1).0
-
-pub br_table_only : OnlyPrintable br_table printable_br_table
-unfolding br_table
-br_table_only = record { holds = table_holds }
+br_table_prints =
+    respelled (whole_where (restated_prints (made_prints (seq_prints index_prints
+    (many_prints begins_index index_prints (lit≤ tt) (search rules) (search rules))
+    (search rules)) split_list) BrTableSpells br_table_to br_table_from)
+    (λ b. table_from b.labels b.default) printable_br_table (λ b h. table_whole b.labels b.default)
+    (λ b h. table_ready b.labels b.default h) (λ v h. table_covers v.0 v.1 h))
+    (λ b. flat_map spell_index b.labels ++ spell_index b.default)
+    (λ b h. table_spelled b.labels b.default)

@@ -102,10 +102,10 @@ body_first test f u ls e r k =
     use_first test f.0 u (spell_locals ls ++ spell_expression e) r
     (locals_first test f.1 ls (spell_expression e) r (expression_first test f.2 f.3 e r k))
 
-body_ends_use : (ls : List LocalTy) (e : Expr) (r : List Tok) → EndsField r
-    → EndsUse ((spell_locals ls ++ spell_expression e) ++ r)
-body_ends_use ls e r k =
-    let n = expression_no_type e r (field_ends_expression r k) in (
+body_ends_use : (ls : List LocalTy) (e : Expr) (r : List Tok) → printable_expression e ≡ true
+    → EndsField r → EndsUse ((spell_locals ls ++ spell_expression e) ++ r)
+body_ends_use ls e r h k =
+    let n = expression_no_type e r h (field_ends_expression r k) in (
       locals_first type_follows (λ y. refl) ls (spell_expression e) r n.0,
       locals_first begins_func (λ y. refl) ls (spell_expression e) r
           (expression_first begins_func (λ h y. refl) (λ y. refl) e r
@@ -121,9 +121,9 @@ body_here u ls e r f g h k =
     let c = spell_locals ls ++ spell_expression e in (
       (u, (ls, e)),
       both_here func_use (seq locals expression) u (ls, e) (spell_use u) c r
-          (use_here u (c ++ r) f (body_ends_use ls e r k))
+          (use_here u (c ++ r) f (body_ends_use ls e r h k))
           (both_here locals expression ls e (spell_locals ls) (spell_expression e) r
-          (locals_here ls (spell_expression e ++ r) g (expression_no_local e r k))
+          (locals_here ls (spell_expression e ++ r) g (expression_no_local e r h k))
           (expression_closed e r h (field_ends_expression r k))),
       refl,
       refl,

@@ -9,29 +9,29 @@ use Rattle.wat_print_instr.proofs.FoldedWritten.{folded_written, folded_printabl
 use Rattle.wat_print_instr.proofs.FoldedWritten.{others_unprintable, seen_last, hints_none}
 use Rattle.wat_print_instr.proofs.folded.FoldedInstructionPrintCode.write.Goals as goal
 
-pub returns-clause-written : goal.returns-clause-written
-returns-clause-written c =
+pub returns : goal.returns
+returns c =
     let s = c.in-Some in
     let e = expression_view c.args.self.now.0 in
-    on_ok_weaker c.close.result (λ done. folded_written e (map instruction_view s.others.now)
-    (instruction_view s.last.now) (seen_last instruction_view _ _ s.others.now s.last.now
-    c.deref.ensures.value s.ensures.cases.0) _ _ _ _ _ c.in_ok-open.ensures.written
-    c.in_ok-write.ensures.written c.in_ok-write_behind.ensures.written done
-    c.in_ok-write_behind.ensures.printable) c.close.ensures.written
+    let seen = seen_last instruction_view _ _ s.others.now s.last.now c.deref.ensures.value
+    s.ensures.cases.0 in
+    record {
+      written = on_ok_weaker c.close.result (λ done. folded_written e
+          (map instruction_view s.others.now) (instruction_view s.last.now) seen _ _ _ _ _
+          c.in_ok-open.ensures.written c.in_ok-write.ensures.written
+          c.in_ok-write_behind.ensures.written done c.in_ok-write_behind.ensures.printable)
+          c.close.ensures.written;
+      printable = on_ok_weaker c.close.result (λ done. folded_printable e
+          (map instruction_view s.others.now) (instruction_view s.last.now) seen
+          (hints_none hint_view _ c.deref-hints.result.now c.deref-hints.ensures.value
+          (sym c.is_empty.ensures ∙ c.if-not-is_empty.false))
+          c.in_ok-write.ensures.printable c.in_ok-write_behind.ensures.printable)
+          c.close.ensures.written;
+      refused = search rules;
+    }
 
-pub returns-clause-printable : goal.returns-clause-printable
-returns-clause-printable c =
-    let s = c.in-Some in
-    let e = expression_view c.args.self.now.0 in
-    on_ok_weaker c.close.result
-    (λ done. folded_printable e (map instruction_view s.others.now) (instruction_view s.last.now)
-    (seen_last instruction_view _ _ s.others.now s.last.now c.deref.ensures.value s.ensures.cases.0)
-    (hints_none hint_view _ c.deref-hints.result.now c.deref-hints.ensures.value
-    (sym c.is_empty.ensures ∙ c.if-not-is_empty.false))
-    c.in_ok-write.ensures.printable c.in_ok-write_behind.ensures.printable) c.close.ensures.written
-
-pub returns-in_err-write-clause-refused : goal.returns-in_err-write-clause-refused
-returns-in_err-write-clause-refused c =
+pub returns-in_err-write : goal.returns-in_err-write
+returns-in_err-write c =
     let s = c.in-Some in
     let e = expression_view c.args.self.now.0 in
     let k = c.in_err-write.ensures.refused in
@@ -39,10 +39,10 @@ returns-in_err-write-clause-refused c =
     λ n. last_unprintable e (map instruction_view s.others.now) (instruction_view s.last.now)
     (seen_last instruction_view _ _ s.others.now s.last.now c.deref.ensures.value s.ensures.cases.0)
     (k n) in
-    search (rules, h)
+    record { written = search rules; printable = search rules; refused = search (rules, h) }
 
-pub returns-in_err-write_behind-clause-refused : goal.returns-in_err-write_behind-clause-refused
-returns-in_err-write_behind-clause-refused c =
+pub returns-in_err-write_behind : goal.returns-in_err-write_behind
+returns-in_err-write_behind c =
     let s = c.in-Some in
     let e = expression_view c.args.self.now.0 in
     let k = c.in_err-write_behind.ensures.refused in
@@ -50,4 +50,4 @@ returns-in_err-write_behind-clause-refused c =
     λ n. others_unprintable e (map instruction_view s.others.now) (instruction_view s.last.now)
     (seen_last instruction_view _ _ s.others.now s.last.now c.deref.ensures.value s.ensures.cases.0)
     (k n) in
-    search (rules, h)
+    record { written = search rules; printable = search rules; refused = search (rules, h) }

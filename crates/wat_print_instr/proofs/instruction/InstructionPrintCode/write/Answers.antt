@@ -9,25 +9,24 @@ use Rattle.wat_print_instr.specs.InstructionForm.{operand_form, printable_instru
 use Rattle.wat_print_instr.specs.Laws.Instruction.{spell_of, printable_of}
 use Rattle.wat_print_instr.proofs.instruction.InstructionPrintCode.write.Goals as goal
 
-pub returns-clause-written : goal.returns-clause-written
-returns-clause-written c =
+pub returns : goal.returns
+returns c =
     let h = op_in c.args.self.now in
     let o = operand_in c.args.self.now in
-    put_then (Keyword c.mnemonic.result.now ∷ []) ((operand_form h).spell o) c.args.out.now _ _
-    c.in_ok-word.ensures.written c.in_ok-write_operand.ensures.written
-    ∙ ap (λ (w : List ℕ). put c.args.out.now (Keyword w ∷ (operand_form h).spell o))
-    c.mnemonic.ensures
-    ∙ ap (λ (l : List Tok). put c.args.out.now l) (sym (spell_of h o))
+    record {
+      written = put_then (Keyword c.mnemonic.result.now ∷ []) ((operand_form h).spell o)
+          c.args.out.now _ _ c.in_ok-word.ensures.written c.in_ok-write_operand.ensures.written
+          ∙ ap (λ (w : List ℕ). put c.args.out.now (Keyword w ∷ (operand_form h).spell o))
+          c.mnemonic.ensures
+          ∙ ap (λ (l : List Tok). put c.args.out.now l) (sym (spell_of h o));
+      printable = printable_of h o ∙ c.in_ok-write_operand.ensures.printable;
+      refused = search rules;
+    }
 
-pub returns-clause-printable : goal.returns-clause-printable
-returns-clause-printable c =
-    printable_of (op_in c.args.self.now) (operand_in c.args.self.now)
-    ∙ c.in_ok-write_operand.ensures.printable
-
-pub returns-in_err-write_operand-clause-refused : goal.returns-in_err-write_operand-clause-refused
-returns-in_err-write_operand-clause-refused c =
+pub returns-in_err-write_operand : goal.returns-in_err-write_operand
+returns-in_err-write_operand c =
     let k = c.in_err-write_operand.ensures.refused in
     let h : c.in_err-write_operand.field-0.0 ≢ Memory
     → printable_instruction (instruction_view c.args.self.now) ≡ false =
     λ n. (printable_of (op_in c.args.self.now) (operand_in c.args.self.now) ∙ k n) in
-    search (rules, h)
+    record { written = search rules; printable = search rules; refused = search (rules, h) }
