@@ -1,4 +1,5 @@
 pub mod Grouped
 mod OnLines
 mod Produced
+mod Single
 mod Unprintable

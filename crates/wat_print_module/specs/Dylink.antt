@@ -1,65 +1,97 @@
 -- How the `dylink.0` section is written.
-use Rattle.std.specs.Prelude.{ℕ, Bool, true, false, ◌&&◌, List, [], ◌∷◌, ◌++◌, codes, flat_map}
-use Rattle.std.specs.Str.{is_utf8}
-use Rattle.wat_lexer.specs.Token.{Tok, Annotation, String}
+use Rattle.std.specs.Prelude.{ℕ, Bool, true, false, ◌&&◌, List, [], ◌∷◌, Some, codes, flat_map, ◌⊎◌}
+use Rattle.std.proofs.Common.{inl, inr}
+use Rattle.wat_tokens.specs.Tests.{begins_group, begins_word, second, more}
 use Rattle.wat_links.specs.Dylink.{SubsectionTy, mem_info, needed, export_info, import_info}
-use Rattle.wat_links.specs.Dylink.{runtime_path, target_arch}
-use Rattle.wat_print.specs.Before.{spell_number}
-use Rattle.wat_print.specs.Parts.{grouped, each}
-use Rattle.wat_print_instr.specs.Numbers.{is_unsigned}
-use Rattle.wat_print.specs.Strings.{spell_string}
+use Rattle.wat_links.specs.Dylink.{runtime_path, target_arch, begins_export, begins_import}
+use Rattle.wat_links.specs.Entries.{EntryTy, of_export, of_import, other, entries_in}
+use Rattle.wat_print.specs.Form.{Form, seq_form, by, by_where, else_form, filled_form, many_form}
+use Rattle.wat_print.specs.Form.{group_form}
+use Rattle.wat_print_module.specs.Strings.{text_form, is_u32, u32_form, annotation_form}
 
--- ---- the written tokens
+-- ---- entries of exports and of imports
 
--- ( word size alignment )
-abbrev pub spell_sizes : List ℕ → ℕ → ℕ → List Tok
-spell_sizes w size align = grouped w (spell_number size ++ spell_number align)
+abbrev pub one_number : ℕ → List ℕ
+one_number n = n ∷ []
 
--- ( word name* )
-abbrev pub spell_names : List ℕ → List (List ℕ) → List Tok
-spell_names w ns = grouped w (flat_map spell_string ns)
+-- all flags as one number
+abbrev pub flags_form : Form ℕ
+flags_form = by_where is_u32 one_number (many_form more u32_form)
 
--- ( export-info name flags ), the flags as one number
-abbrev pub spell_export_flags : List ℕ × ℕ → List Tok
-spell_export_flags e = grouped (codes "export-info") (String e.0 ∷ spell_number e.1)
+-- ( export-info name flags )
+abbrev pub export_form : Form (List ℕ × ℕ)
+export_form = group_form (codes "export-info") (seq_form text_form flags_form)
+
+abbrev pub import_parts : List ℕ × List ℕ × ℕ → List ℕ × (List ℕ × ℕ)
+import_parts e = (e.0, (e.1, e.2))
 
 -- ( import-info module name flags )
-abbrev pub spell_import_flags : List ℕ × List ℕ × ℕ → List Tok
-spell_import_flags e = grouped (codes "import-info") (String e.0 ∷ String e.1 ∷ spell_number e.2)
+abbrev pub import_form : Form (List ℕ × List ℕ × ℕ)
+import_form =
+    group_form (codes "import-info")
+    (by import_parts (seq_form text_form (seq_form text_form flags_form)))
 
-abbrev pub spell_subsection : SubsectionTy → List Tok
-spell_subsection (mem_info ms ma ts ta) =
-    grouped (codes "mem-info") (spell_sizes (codes "memory") ms ma
-    ++ spell_sizes (codes "table") ts ta)
-spell_subsection (needed ns) = spell_names (codes "needed") ns
-spell_subsection (export_info es) = flat_map spell_export_flags es
-spell_subsection (import_info es) = flat_map spell_import_flags es
-spell_subsection (runtime_path ns) = spell_names (codes "runtime-path") ns
-spell_subsection (target_arch n) = grouped (codes "target-arch") (spell_string n)
+-- ---- other entries
 
--- @dylink.0 entries
-abbrev pub spell_dylink : List SubsectionTy → List Tok
-spell_dylink ss = Annotation (codes "dylink.0") ∷ flat_map spell_subsection ss
+-- ( word size alignment )
+abbrev pub sizes_form : List ℕ → Form (ℕ × ℕ)
+sizes_form w =
+    by Some (filled_form (second (begins_word w)) (group_form w (seq_form u32_form u32_form)))
 
--- ---- sections that can be written
+-- name*
+abbrev pub texts_form : Form (List (List ℕ))
+texts_form = many_form more text_form
 
--- two numbers of 32 bits
-abbrev pub printable_sizes : ℕ → ℕ → Bool
-printable_sizes size align = is_unsigned 32 size && is_unsigned 32 align
+-- ( word name* )
+abbrev pub names_form : List ℕ → Form (List (List ℕ))
+names_form w = group_form w texts_form
 
-abbrev pub printable_export_flags : List ℕ × ℕ → Bool
-printable_export_flags e = is_utf8 e.0 && is_unsigned 32 e.1
+abbrev pub Lone : Type 0
+Lone = (ℕ × ℕ) × (ℕ × ℕ) ⊎ (List (List ℕ) ⊎ (List (List ℕ) ⊎ List ℕ))
 
-abbrev pub printable_import_flags : List ℕ × List ℕ × ℕ → Bool
-printable_import_flags e = is_utf8 e.0 && (is_utf8 e.1 && is_unsigned 32 e.2)
+abbrev pub lone_parts : SubsectionTy → Lone
+lone_parts (mem_info ms ma ts ta) = inl ((ms, ma), (ts, ta))
+lone_parts (needed ns) = inr (inl ns)
+lone_parts (runtime_path ns) = inr (inr (inl ns))
+lone_parts (target_arch n) = inr (inr (inr n))
+lone_parts _ = inr (inl [])
 
-abbrev pub printable_subsection : SubsectionTy → Bool
-printable_subsection (mem_info ms ma ts ta) = printable_sizes ms ma && printable_sizes ts ta
-printable_subsection (needed ns) = each is_utf8 ns
-printable_subsection (export_info es) = each printable_export_flags es
-printable_subsection (import_info es) = each printable_import_flags es
-printable_subsection (runtime_path ns) = each is_utf8 ns
-printable_subsection (target_arch n) = is_utf8 n
+abbrev pub tree_form : Form Lone
+tree_form =
+    else_form (begins_group (codes "mem-info")) (group_form (codes "mem-info")
+    (seq_form (sizes_form (codes "memory")) (sizes_form (codes "table"))))
+    (else_form (begins_group (codes "needed")) (names_form (codes "needed"))
+    (else_form (begins_group (codes "runtime-path")) (names_form (codes "runtime-path"))
+    (group_form (codes "target-arch") text_form)))
+
+-- the subsection is of neither exports nor imports
+abbrev pub is_lone : SubsectionTy → Bool
+is_lone (export_info es) = false
+is_lone (import_info es) = false
+is_lone _ = true
+
+abbrev pub printable_lone : SubsectionTy → Bool
+printable_lone s = is_lone s && tree_form.printable (lone_parts s)
+
+abbrev pub lone_form : Form SubsectionTy
+lone_form = by_where printable_lone lone_parts tree_form
+
+-- ---- any entry
+
+abbrev pub entry_parts : EntryTy → List ℕ × ℕ ⊎ (List ℕ × List ℕ × ℕ ⊎ SubsectionTy)
+entry_parts (of_export e) = inl e
+entry_parts (of_import e) = inr (inl e)
+entry_parts (other s) = inr (inr s)
+
+abbrev pub entry_form : Form EntryTy
+entry_form =
+    by entry_parts (else_form begins_export export_form
+    (else_form begins_import import_form lone_form))
+
+abbrev pub entries_form : Form (List EntryTy)
+entries_form = many_form more entry_form
+
+-- ---- subsections that can be written
 
 -- a subsection of exports or of imports has an entry
 abbrev pub is_filled : SubsectionTy → Bool
@@ -79,4 +111,11 @@ are_cut [] = true
 are_cut (s ∷ ss) = (is_filled s && is_apart s ss) && are_cut ss
 
 abbrev pub printable_dylink : List SubsectionTy → Bool
-printable_dylink ss = each printable_subsection ss && are_cut ss
+printable_dylink ss = entries_form.printable (flat_map entries_in ss) && are_cut ss
+
+abbrev pub subsections_form : Form (List SubsectionTy)
+subsections_form = by_where printable_dylink (flat_map entries_in) entries_form
+
+-- @dylink.0 entries
+abbrev pub dylink_form : Form (List SubsectionTy)
+dylink_form = annotation_form (codes "dylink.0") subsections_form

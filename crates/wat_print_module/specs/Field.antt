@@ -7,11 +7,10 @@ use Rattle.wat_core.specs.Field.{ModuleFieldTy, a_type, a_rec, an_import, a_func
 use Rattle.wat_core.specs.Field.{a_global, an_export, a_start, an_elem, a_data, a_tag, a_custom}
 use Rattle.wat_print.specs.Before.{spell_type, printable_type, spell_rec, printable_rec}
 use Rattle.wat_print.specs.Index.{spell_index, printable_index}
-use Rattle.wat_print_module.specs.Custom.{spell_custom, printable_custom}
-use Rattle.wat_print_module.specs.Export.{spell_export, printable_export}
+use Rattle.wat_print_module.specs.Before.{spell_custom, printable_custom, spell_export}
+use Rattle.wat_print_module.specs.Before.{printable_export, spell_imports, printable_imports}
 use Rattle.wat_print_module.specs.Func.{spell_func, printable_func}
 use Rattle.wat_print_module.specs.Global.{spell_global_field, printable_global_field}
-use Rattle.wat_print_module.specs.Import.{spell_imports, printable_imports}
 use Rattle.wat_print_module.specs.Memory.{spell_memory, printable_memory}
 use Rattle.wat_print_module.specs.Segments.{spell_elem, printable_elem, spell_data, printable_data}
 use Rattle.wat_print_module.specs.Table.{spell_table, printable_table}

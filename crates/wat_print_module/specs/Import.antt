@@ -1,41 +1,59 @@
 -- How imports are written.
-use Rattle.std.specs.Prelude.{ℕ, Bool, ◌&&◌, List, [], ◌∷◌, ◌++◌, codes, flat_map, is_none}
-use Rattle.std.specs.Str.{is_utf8}
-use Rattle.wat_lexer.specs.Token.{Tok, Keyword, String}
-use Rattle.wat_links.specs.Import.{ItemsTy, single, group1, group2, ImportsTy}
+use Rattle.std.specs.Prelude.{ℕ, Bool, ◌&&◌, List, codes, is_none, ◌⊎◌}
+use Rattle.std.proofs.Common.{inl, inr}
+use Rattle.wat_tokens.specs.Tests.{ends}
+use Rattle.wat_links.specs.Import.{ItemsTy, single, group1, group2, ImportsTy, item_follows}
 use Rattle.wat_links.specs.Item.{SigTy}
-use Rattle.wat_print.specs.Parts.{grouped, each}
-use Rattle.wat_print_module.specs.Item.{printable_sig, spell_sig_group}
+use Rattle.wat_print.specs.Form.{any, Form, seq_form, by, else_form, many_form, paren_form}
+use Rattle.wat_print.specs.Form.{after_form, group_form}
+use Rattle.wat_print_module.specs.Item.{printable_sig, sig_form}
+use Rattle.wat_print_module.specs.Strings.{text_form}
+
+-- name ( ItemSig )
+abbrev pub single_form : Form (List ℕ × SigTy)
+single_form = seq_form text_form (paren_form sig_form)
 
 -- ( item name ( ItemSig ) )
-abbrev pub spell_typed : List ℕ × SigTy → List Tok
-spell_typed x = grouped (codes "item") (String x.0 ∷ spell_sig_group x.1)
+abbrev pub typed_form : Form (List ℕ × SigTy)
+typed_form = group_form (codes "item") single_form
 
-abbrev pub printable_typed : List ℕ × SigTy → Bool
-printable_typed x = is_utf8 x.0 && printable_sig x.1
+abbrev pub typed_items_form : Form (List (List ℕ × SigTy))
+typed_items_form = many_form item_follows typed_form
 
 -- ( item name )
-abbrev pub spell_named : List ℕ → List Tok
-spell_named n = grouped (codes "item") (String n ∷ [])
+abbrev pub named_form : Form (List ℕ)
+named_form = group_form (codes "item") text_form
+
+abbrev pub named_items_form : Form (List (List ℕ))
+named_items_form = many_form item_follows named_form
 
 -- a shared signature has no identifier
 abbrev pub printable_shared : SigTy → Bool
 printable_shared s = is_none s.label.id && printable_sig s
 
--- a name and its signature; items with signatures; items and their shared signature
-abbrev pub spell_items : ItemsTy → List Tok
-spell_items (single n s) = String n ∷ spell_sig_group s
-spell_items (group1 xs) = flat_map spell_typed xs
-spell_items (group2 s ns) = flat_map spell_named ns ++ spell_sig_group s
+abbrev pub shared_form : Form SigTy
+shared_form = record sig_form { printable = printable_shared; ready = printable_shared }
 
-abbrev pub printable_items : ItemsTy → Bool
-printable_items (single n s) = is_utf8 n && printable_sig s
-printable_items (group1 xs) = each printable_typed xs
-printable_items (group2 s ns) = each is_utf8 ns && printable_shared s
+-- ( item name )* ( ItemSig )
+abbrev pub sharing_form : Form (List (List ℕ) × SigTy)
+sharing_form = seq_form named_items_form (paren_form shared_form)
+
+abbrev pub items_parts
+    : ItemsTy → List ℕ × SigTy ⊎ (List (List ℕ × SigTy) ⊎ List (List ℕ) × SigTy)
+items_parts (single n s) = inl (n, s)
+items_parts (group1 xs) = inr (inl xs)
+items_parts (group2 s ns) = inr (inr (ns, s))
+
+-- a name and its signature; items with signatures; items and their shared signature
+abbrev pub items_form : Form ItemsTy
+items_form = record (by items_parts (else_form any single_form
+    (else_form any typed_items_form sharing_form))) {
+      follows = λ r. ends r && (single_form.follows r && typed_items_form.follows r);
+    }
+
+abbrev pub imports_parts : ImportsTy → List ℕ × ItemsTy
+imports_parts i = (i.from, i.items)
 
 -- import name items
-abbrev pub spell_imports : ImportsTy → List Tok
-spell_imports i = Keyword (codes "import") ∷ String i.from ∷ spell_items i.items
-
-abbrev pub printable_imports : ImportsTy → Bool
-printable_imports i = is_utf8 i.from && printable_items i.items
+abbrev pub imports_form : Form ImportsTy
+imports_form = by imports_parts (after_form (codes "import") (seq_form text_form items_form))

@@ -1,12 +1,52 @@
 -- How the signatures of imported and exported items are written.
-use Rattle.std.specs.Prelude.{ℕ, Bool, ◌&&◌, List, ◌∷◌, ◌++◌, codes}
+use Rattle.std.specs.Prelude.{ℕ, Bool, true, false, ◌&&◌, List, ◌∷◌, ◌++◌, codes, ◌⊎◌}
+use Rattle.std.proofs.Common.{inl, inr}
 use Rattle.wat_lexer.specs.Token.{Tok, Keyword}
-use Rattle.wat_tokens.specs.Spelled.{in_parens}
+use Rattle.wat_tokens.specs.Tests.{begins_word, second}
+use Rattle.wat_types.specs.Group.{FuncTy}
+use Rattle.wat_types.specs.Label.{Label}
+use Rattle.wat_types.specs.Limits.{TableTy}
+use Rattle.wat_types.specs.Storage.{GlobalTy}
+use Rattle.wat_types.specs.Use.{UseTy}
+use Rattle.wat_types.specs.declared.limits.MemoryType.{MemoryType}
 use Rattle.wat_links.specs.Item.{ItemKindTy, func, table, memory, global, tag, exact_func, SigTy}
-use Rattle.wat_print.specs.Before.{spell_label, printable_label, spell_memory_type}
-use Rattle.wat_print.specs.Before.{printable_memory_type, spell_table_type, printable_table_type}
-use Rattle.wat_print.specs.Before.{spell_global, printable_global, spell_use, printable_use}
-use Rattle.wat_print.specs.Parts.{grouped}
+use Rattle.wat_print.specs.Form.{any, Form, seq_form, by, by_where, else_form, after_form}
+use Rattle.wat_print.specs.Form.{group_form}
+use Rattle.wat_print.specs.Label.{label_form}
+use Rattle.wat_print.specs.Limits.{memory_form, table_form}
+use Rattle.wat_print.specs.Storage.{global_form}
+use Rattle.wat_print.specs.Use.{use_form}
+
+-- ---- the types of items
+
+abbrev pub exact_parts : UseTy FuncTy × Bool → UseTy FuncTy ⊎ UseTy FuncTy
+exact_parts (u, true) = inl u
+exact_parts (u, false) = inr u
+
+-- ( exact TypeUse ) | TypeUse
+abbrev pub exact_form : Form (UseTy FuncTy × Bool)
+exact_form =
+    by exact_parts (else_form (second (begins_word (codes "exact")))
+    (group_form (codes "exact") use_form) use_form)
+
+abbrev pub KindTree : Type 0
+KindTree = UseTy FuncTy × Bool ⊎ (TableTy ⊎ (MemoryType ⊎ (GlobalTy ⊎ UseTy FuncTy)))
+
+abbrev pub kind_parts : ItemKindTy → KindTree
+kind_parts (func u) = inl (u, false)
+kind_parts (exact_func u) = inl (u, true)
+kind_parts (table t) = inr (inl t)
+kind_parts (memory m) = inr (inr (inl m))
+kind_parts (global g) = inr (inr (inr (inl g)))
+kind_parts (tag u) = inr (inr (inr (inr u)))
+
+-- the type of an item; the word of its kind distinguishes the parts
+abbrev pub item_form : Form ItemKindTy
+item_form =
+    by kind_parts (else_form any exact_form (else_form any table_form
+    (else_form any memory_form (else_form any global_form use_form))))
+
+-- ---- signatures
 
 abbrev pub item_word : ItemKindTy → List ℕ
 item_word (func u) = codes "func"
@@ -16,29 +56,37 @@ item_word (global g) = codes "global"
 item_word (tag u) = codes "tag"
 item_word (exact_func u) = codes "func"
 
--- the type; an exact function type is written in ( exact .. )
-abbrev pub spell_item : ItemKindTy → List Tok
-spell_item (func u) = spell_use u
-spell_item (table t) = spell_table_type t
-spell_item (memory m) = spell_memory_type m
-spell_item (global g) = spell_global g
-spell_item (tag u) = spell_use u
-spell_item (exact_func u) = grouped (codes "exact") (spell_use u)
-
-abbrev pub printable_item : ItemKindTy → Bool
-printable_item (func u) = printable_use u
-printable_item (table t) = printable_table_type t
-printable_item (memory m) = printable_memory_type m
-printable_item (global g) = printable_global g
-printable_item (tag u) = printable_use u
-printable_item (exact_func u) = printable_use u
-
 -- the word, id? name? and the type
+abbrev pub item_of_form : {A : Type 0} → List ℕ → Form A → Form (Label × A)
+item_of_form w p = after_form w (seq_form label_form p)
+
+abbrev pub SigTree : Type 0
+SigTree =
+    Label × (UseTy FuncTy × Bool) ⊎ (Label × TableTy ⊎ (Label × MemoryType
+    ⊎ (Label × GlobalTy ⊎ Label × UseTy FuncTy)))
+
+abbrev pub sig_side : Label → KindTree → SigTree
+sig_side l (inl u) = inl (l, u)
+sig_side l (inr (inl t)) = inr (inl (l, t))
+sig_side l (inr (inr (inl m))) = inr (inr (inl (l, m)))
+sig_side l (inr (inr (inr (inl g)))) = inr (inr (inr (inl (l, g))))
+sig_side l (inr (inr (inr (inr u)))) = inr (inr (inr (inr (l, u))))
+
+abbrev pub sig_parts : SigTy → SigTree
+sig_parts s = sig_side s.label (kind_parts s.kind)
+
 abbrev pub spell_sig : SigTy → List Tok
-spell_sig s = Keyword (item_word s.kind) ∷ (spell_label s.label ++ spell_item s.kind)
+spell_sig s = Keyword (item_word s.kind) ∷ (label_form.spell s.label ++ item_form.spell s.kind)
 
 abbrev pub printable_sig : SigTy → Bool
-printable_sig s = printable_label s.label && printable_item s.kind
+printable_sig s = label_form.printable s.label && item_form.printable s.kind
 
-abbrev pub spell_sig_group : SigTy → List Tok
-spell_sig_group s = in_parens (spell_sig s)
+abbrev pub sig_form : Form SigTy
+sig_form = record (by_where printable_sig sig_parts (
+    else_form (begins_word (codes "func")) (item_of_form (codes "func") exact_form)
+    (else_form (begins_word (codes "table")) (item_of_form (codes "table") table_form)
+    (else_form (begins_word (codes "memory")) (item_of_form (codes "memory") memory_form)
+    (else_form (begins_word (codes "global")) (item_of_form (codes "global") global_form)
+    (item_of_form (codes "tag") use_form)))))) {
+      spell = spell_sig;
+    }

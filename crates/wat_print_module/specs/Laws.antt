@@ -1,4 +1,5 @@
 -- Laws of the definitions: lemmas that other crates use.
+pub mod Before
 pub mod Body
 pub mod Custom
 pub mod Data
@@ -20,6 +21,7 @@ pub mod Module
 pub mod CustomPlace
 pub mod Producers
 pub mod Strings
+pub mod Subsections
 pub mod Table
 pub mod TableOnly
 pub mod Tag

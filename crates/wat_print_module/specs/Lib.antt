@@ -23,6 +23,7 @@ pub use Rattle.wat_links.specs.Item as LinksItem
 pub use Rattle.wat_links.specs.CustomPlace as LinksPlace
 pub use Rattle.wat_links.specs.Producers as LinksProducers
 pub use Rattle.wat_links.specs.Raw
+pub mod Before
 pub mod Custom
 pub mod Dylink
 pub mod Export
@@ -43,5 +44,6 @@ pub mod CustomPlace
 pub mod Producers
 pub mod SegmentPrintings
 pub mod Segments
+pub mod Strings
 pub mod Table
 pub mod Tag

@@ -1,14 +1,17 @@
 -- How the `producers` section is written.
-use Rattle.std.specs.Prelude.{ℕ, Bool, not, ◌&&◌, if◌then◌else◌, List, [], ◌∷◌, codes, flat_map}
-use Rattle.std.specs.Prelude.{Vec}
+use Rattle.std.specs.Prelude.{◌≡◌, ℕ, Bool, true, not, ◌&&◌, if◌then◌else◌, List, [], ◌∷◌, codes}
+use Rattle.std.specs.Prelude.{flat_map, Vec}
 use Rattle.std.specs.Borrow.{Bor}
-use Rattle.std.specs.Str.{bytes_eq, is_utf8}
+use Rattle.std.specs.Str.{bytes_eq}
 use Rattle.std.specs.declared.alloc.Global.{Global}
-use Rattle.wat_lexer.specs.Token.{Tok, Annotation, String}
+use Rattle.wat_lexer.specs.Token.{Tok, LParen}
+use Rattle.wat_tokens.specs.Tests.{more}
 use Rattle.wat_tokens.specs.Views.{no_items}
 use Rattle.wat_links.specs.ProducerEntry.{Versioned}
 use Rattle.wat_links.specs.Producers.{names_view}
-use Rattle.wat_print.specs.Parts.{grouped, each}
+use Rattle.wat_print.specs.Form.{any, Form, seq_form, many_form, group_form}
+use Rattle.wat_print.specs.Parts.{each}
+use Rattle.wat_print_module.specs.Strings.{text_form, annotation_form}
 
 -- a field: its word and its entries
 abbrev pub ProducedTy : Type 0
@@ -19,28 +22,27 @@ abbrev pub produced_view
     : Bor (List ℕ) × Vec (Bor (List ℕ) × Bor (List ℕ)) Global → ProducedTy
 produced_view f = (f.0.now, names_view f.1.items)
 
--- ---- the written tokens
+-- ---- fields and their entries
+
+-- a name and a version
+abbrev pub versioned_form : Form Versioned
+versioned_form = seq_form text_form text_form
 
 -- ( word name version )
-abbrev pub spell_produced : List ℕ → Versioned → List Tok
-spell_produced w e = grouped w (String e.0 ∷ String e.1 ∷ [])
+abbrev pub produced_form : List ℕ → Form Versioned
+produced_form w = group_form w versioned_form
 
--- the entries of a field
-abbrev pub spell_produced_field : ProducedTy → List Tok
-spell_produced_field f = flat_map (spell_produced f.0) f.1
-
--- @producers entries
-abbrev pub spell_producers : List ProducedTy → List Tok
-spell_producers fs = Annotation (codes "producers") ∷ flat_map spell_produced_field fs
-
--- ---- sections that can be written
-
-abbrev pub printable_versioned : Versioned → Bool
-printable_versioned e = is_utf8 e.0 && is_utf8 e.1
-
--- a field has an entry
-abbrev pub printable_produced_field : ProducedTy → Bool
-printable_produced_field f = not (no_items f.1) && each printable_versioned f.1
+-- the entries of a field; a field has an entry
+abbrev pub field_form : Form ProducedTy
+field_form = record {
+  spell = λ f. flat_map (produced_form f.0).spell f.1;
+  printable = λ f. not (no_items f.1) && each versioned_form.printable f.1;
+  ready = λ f. not (no_items f.1) && each versioned_form.printable f.1;
+  follows = any;
+  empty = true;
+  balanced = true;
+  Fronts = λ rest test. ((y : List Tok) → test (LParen ∷ y) ≡ true);
+}
 
 -- the first field, if the field has the word
 abbrev pub field_of_word : List ℕ → List ProducedTy → List ProducedTy
@@ -56,8 +58,20 @@ fields_behind w (f ∷ fs) = if bytes_eq f.0 w then fs else f ∷ fs
 abbrev pub printable_in_turn : List (List ℕ) → List ProducedTy → Bool
 printable_in_turn [] fs = no_items fs
 printable_in_turn (w ∷ ws) fs =
-    each printable_produced_field (field_of_word w fs) && printable_in_turn ws (fields_behind w fs)
+    each field_form.printable (field_of_word w fs) && printable_in_turn ws (fields_behind w fs)
 
 abbrev pub printable_producers : List ProducedTy → Bool
 printable_producers fs =
     printable_in_turn (codes "language" ∷ codes "sdk" ∷ codes "processed-by" ∷ []) fs
+
+-- ---- the section
+
+abbrev pub fields_form : Form (List ProducedTy)
+fields_form = record (many_form more field_form) {
+  printable = printable_producers;
+  ready = printable_producers;
+}
+
+-- @producers entries
+abbrev pub producers_form : Form (List ProducedTy)
+producers_form = annotation_form (codes "producers") fields_form

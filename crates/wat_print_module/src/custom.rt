@@ -1,11 +1,9 @@
 //! Printing of custom sections.
 
-ghost use Rattle.std.specs.Prelude.{◌≡◌, ◌≢◌, OnOk, IfErr, true, false};
 ghost use Rattle.wat_tokens.specs.Groups.{paren};
 ghost use Rattle.wat_links.specs.Custom.{CustomTy, custom_view, custom};
-ghost use Rattle.wat_print.specs.Text.{put};
-ghost use Rattle.wat_print.specs.declared.fault.Refused.TheVariants.{Memory};
-ghost use Rattle.wat_print_module.specs.Custom.{spell_custom, printable_custom};
+ghost use Rattle.wat_print.specs.Prints.{Printed};
+ghost use Rattle.wat_print_module.specs.Custom.{custom_form};
 ghost use Rattle.wat_print_module.specs.LinkPrintings.{custom_printing};
 
 use crate::dylink::write_dylink;
@@ -17,10 +15,7 @@ use wat_print::{Output, Refused};
 
 /// Writes a custom section, without its parentheses (Text Format, "Custom Annotation").
 pub fn write_custom(out: &mut Output, section: &Custom) -> Result<(), Refused>
-    ensures written { OnOk result (out.new ≡ put out.old (spell_custom (custom_view section.now))) }
-    ensures printable { OnOk result (printable_custom (custom_view section.now) ≡ true) }
-    ensures refused { IfErr result (λ e. e ≢ Memory
-        → printable_custom (custom_view section.now) ≡ false) }
+    ensures { Printed custom_form (custom_view section.now) result out.old out.new }
 {
     match section {
         Custom::Raw(section) => write_raw(out, section),
@@ -39,6 +34,7 @@ impl PrintPart for Custom<'_> {
 
     ghost printing = { custom_printing };
 
+    #[tactic(auto, using(wat_print::specs::Laws::Written::puts_put, wat_print::specs::Laws::Written::put_both))]
     fn write(&self, out: &mut Output) -> Result<(), Refused> {
         out.open()?;
         write_custom(out, self)?;

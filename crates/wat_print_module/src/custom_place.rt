@@ -1,11 +1,11 @@
 //! Printing of the places of custom sections.
 
-ghost use Rattle.std.specs.Prelude.{◌≡◌, OnOk, IfErr};
+ghost use Rattle.std.specs.Prelude.{◌≡◌, IfErr};
 ghost use Rattle.wat_links.specs.CustomPlace.{section, custom_place};
-ghost use Rattle.wat_print.specs.Text.{put};
+ghost use Rattle.wat_print.specs.Prints.{Printed};
 ghost use Rattle.wat_print.specs.declared.fault.Refused.TheVariants.{Memory};
+ghost use Rattle.wat_print_module.specs.CustomPlace.{section_word, place_form, place_group_form};
 ghost use Rattle.wat_print_module.specs.LinkPrintings.{section_printing, place_printing};
-ghost use Rattle.wat_print_module.specs.CustomPlace.{section_word, spell_place, spell_place_group};
 
 use crate::traits::PrintPart;
 use wat_links::{CustomPlace, CustomPlaceAnchor};
@@ -34,7 +34,7 @@ fn word_of(section: CustomPlaceAnchor) -> &'static str
 /// Writes the place of a custom section, without its parentheses (Text Format, "Custom
 /// Annotation").
 pub fn write_place(out: &mut Output, place: CustomPlace) -> Result<(), Refused>
-    ensures written { OnOk result (out.new ≡ put out.old (spell_place place)) }
+    ensures printed { Printed place_form place result out.old out.new }
     ensures refused { IfErr result (λ e. e ≡ Memory) }
 {
     match place {
@@ -58,8 +58,9 @@ pub fn write_place(out: &mut Output, place: CustomPlace) -> Result<(), Refused>
 }
 
 /// Writes the place in parentheses, or nothing if the section comes after the last section.
+#[tactic(auto, using(wat_print::specs::Laws::Written::put_both))]
 pub fn write_place_group(out: &mut Output, place: CustomPlace) -> Result<(), Refused>
-    ensures written { OnOk result (out.new ≡ put out.old (spell_place_group place)) }
+    ensures printed { Printed place_group_form place result out.old out.new }
     ensures refused { IfErr result (λ e. e ≡ Memory) }
 {
     if matches!(place, CustomPlace::AfterLast) {

@@ -1,31 +1,25 @@
 //! Printing of the `dylink.0` section.
 
-ghost use Rattle.std.specs.Prelude.{◌≡◌, ◌≢◌, List, OnOk, IfErr, true, false, map};
-ghost use Rattle.std.specs.Str.{is_utf8};
+ghost use Rattle.std.specs.Prelude.{◌≡◌, List, map, flat_map};
 ghost use Rattle.wat_tokens.specs.Groups.{paren};
 ghost use Rattle.wat_links.specs.Cutting.{dylink};
 ghost use Rattle.wat_links.specs.Dylink.{SubsectionTy, dylink_export_view, dylink_import_view};
 ghost use Rattle.wat_links.specs.Dylink.{subsection_view, dylink_view};
-ghost use Rattle.wat_print.specs.Parts.{each, Wrote};
-ghost use Rattle.wat_print.specs.Text.{put};
-ghost use Rattle.wat_print.specs.declared.fault.Refused.TheVariants.{Memory};
-ghost use Rattle.wat_print_module.specs.Dylink.{spell_sizes, spell_names, spell_export_flags};
-ghost use Rattle.wat_print_module.specs.Dylink.{spell_import_flags, spell_subsection, spell_dylink};
-ghost use Rattle.wat_print_module.specs.Dylink.{printable_sizes, printable_export_flags};
-ghost use Rattle.wat_print_module.specs.Dylink.{printable_import_flags, printable_subsection};
-ghost use Rattle.wat_print_module.specs.Dylink.{is_filled, is_apart, are_cut, printable_dylink};
+ghost use Rattle.wat_links.specs.Entries.{of_export, of_import, entries_in};
+ghost use Rattle.wat_print.specs.Prints.{Printed};
+ghost use Rattle.wat_print_module.specs.Dylink.{sizes_form, texts_form, names_form, export_form};
+ghost use Rattle.wat_print_module.specs.Dylink.{import_form, entries_form, dylink_form};
+ghost use Rattle.wat_print_module.specs.Dylink.{is_filled, is_apart, are_cut};
 ghost use Rattle.wat_print_module.specs.LinkPrintings.{dylink_printing};
-ghost use Rattle.wat_print.specs.Strings.{spell_string};
 
 use crate::traits::PrintPart;
 use wat_links::{Dylink0, Dylink0Subsection};
 use wat_print::{Output, Refused};
 
 /// Writes `( word size alignment )`.
+#[tactic(auto, using(wat_print::specs::Laws::Written::put_both))]
 fn write_sizes(out: &mut Output, word: &str, size: u32, align: u32) -> Result<(), Refused>
-    ensures written { OnOk result (out.new ≡ put out.old (spell_sizes word.now size align)) }
-    ensures printable { printable_sizes size align ≡ true }
-    ensures refused { IfErr result (λ e. e ≡ Memory) }
+    ensures { Printed (sizes_form word.now) (size, align) result out.old out.new }
 {
     out.open()?;
     out.word(word)?;
@@ -35,10 +29,9 @@ fn write_sizes(out: &mut Output, word: &str, size: u32, align: u32) -> Result<()
 }
 
 /// Writes names in order.
+#[tactic(auto, using(std::proofs::lemmas::List::drop_more, wat_print::specs::Laws::Written::put_both))]
 fn write_strings(out: &mut Output, names: &[&str]) -> Result<(), Refused>
-    ensures wrote { OnOk result
-        (Wrote (λ n. n.now) spell_string is_utf8 names.now out.old out.new) }
-    ensures refused { IfErr result (λ e. e ≡ Memory) }
+    ensures { Printed texts_form (map (λ n. n.now) names.now) result out.old out.new }
 {
     for name in names {
         out.text(name)?;
@@ -47,11 +40,10 @@ fn write_strings(out: &mut Output, names: &[&str]) -> Result<(), Refused>
 }
 
 /// Writes `( word name* )`.
+#[tactic(auto, using(wat_print::specs::Laws::Written::put_both))]
 fn write_names(out: &mut Output, word: &str, names: &[&str]) -> Result<(), Refused>
-    ensures written { OnOk result (out.new ≡ put out.old
-        (spell_names word.now (map (λ n. n.now) names.now))) }
-    ensures printable { OnOk result (each is_utf8 (map (λ n. n.now) names.now) ≡ true) }
-    ensures refused { IfErr result (λ e. e ≡ Memory) }
+    ensures { Printed (names_form word.now) (map (λ n. n.now) names.now) result out.old
+        out.new }
 {
     out.open()?;
     out.word(word)?;
@@ -60,11 +52,9 @@ fn write_names(out: &mut Output, word: &str, names: &[&str]) -> Result<(), Refus
 }
 
 /// Writes `( export-info name flags )`, the flags as one number.
+#[tactic(auto, using(wat_print::specs::Laws::Written::put_both))]
 fn write_export(out: &mut Output, entry: &(&str, u32)) -> Result<(), Refused>
-    ensures written { OnOk result (out.new ≡ put out.old
-        (spell_export_flags (dylink_export_view entry.now))) }
-    ensures printable { OnOk result (printable_export_flags (dylink_export_view entry.now) ≡ true) }
-    ensures refused { IfErr result (λ e. e ≡ Memory) }
+    ensures { Printed export_form (dylink_export_view entry.now) result out.old out.new }
 {
     out.open()?;
     out.word("export-info")?;
@@ -74,10 +64,10 @@ fn write_export(out: &mut Output, entry: &(&str, u32)) -> Result<(), Refused>
 }
 
 /// Writes the entries of exports in order.
+#[tactic(auto, using(std::proofs::lemmas::List::drop_more, wat_print::specs::Laws::Written::put_both))]
 fn write_exports(out: &mut Output, entries: &[(&str, u32)]) -> Result<(), Refused>
-    ensures wrote { OnOk result (Wrote dylink_export_view spell_export_flags printable_export_flags
-        entries.now out.old out.new) }
-    ensures refused { IfErr result (λ e. e ≡ Memory) }
+    ensures { Printed entries_form (map of_export (map dylink_export_view entries.now))
+        result out.old out.new }
 {
     for entry in entries {
         write_export(out, entry)?;
@@ -86,11 +76,9 @@ fn write_exports(out: &mut Output, entries: &[(&str, u32)]) -> Result<(), Refuse
 }
 
 /// Writes `( import-info module name flags )`, the flags as one number.
+#[tactic(auto, using(wat_print::specs::Laws::Written::put_both))]
 fn write_import(out: &mut Output, entry: &(&str, &str, u32)) -> Result<(), Refused>
-    ensures written { OnOk result (out.new ≡ put out.old
-        (spell_import_flags (dylink_import_view entry.now))) }
-    ensures printable { OnOk result (printable_import_flags (dylink_import_view entry.now) ≡ true) }
-    ensures refused { IfErr result (λ e. e ≡ Memory) }
+    ensures { Printed import_form (dylink_import_view entry.now) result out.old out.new }
 {
     out.open()?;
     out.word("import-info")?;
@@ -101,10 +89,10 @@ fn write_import(out: &mut Output, entry: &(&str, &str, u32)) -> Result<(), Refus
 }
 
 /// Writes the entries of imports in order.
+#[tactic(auto, using(std::proofs::lemmas::List::drop_more, wat_print::specs::Laws::Written::put_both))]
 fn write_imports(out: &mut Output, entries: &[(&str, &str, u32)]) -> Result<(), Refused>
-    ensures wrote { OnOk result (Wrote dylink_import_view spell_import_flags printable_import_flags
-        entries.now out.old out.new) }
-    ensures refused { IfErr result (λ e. e ≡ Memory) }
+    ensures { Printed entries_form (map of_import (map dylink_import_view entries.now))
+        result out.old out.new }
 {
     for entry in entries {
         write_import(out, entry)?;
@@ -113,11 +101,10 @@ fn write_imports(out: &mut Output, entries: &[(&str, &str, u32)]) -> Result<(), 
 }
 
 /// Writes a subsection: all numbers of `mem-info`, and the flags of a symbol as one number.
+#[tactic(auto, using(wat_print::specs::Laws::Written::put_both))]
 fn write_subsection(out: &mut Output, subsection: &Dylink0Subsection) -> Result<(), Refused>
-    ensures written { OnOk result (out.new ≡ put out.old
-        (spell_subsection (subsection_view subsection.now))) }
-    ensures printable { OnOk result (printable_subsection (subsection_view subsection.now) ≡ true) }
-    ensures refused { IfErr result (λ e. e ≡ Memory) }
+    ensures { Printed entries_form (entries_in (subsection_view subsection.now)) result
+        out.old out.new }
 {
     match subsection {
         Dylink0Subsection::MemInfo {
@@ -146,10 +133,10 @@ fn write_subsection(out: &mut Output, subsection: &Dylink0Subsection) -> Result<
 }
 
 /// Writes subsections in order.
+#[tactic(auto, using(std::proofs::lemmas::List::drop_more, wat_print::specs::Laws::Written::put_both, crate::specs::Laws::Dylink::more_entries))]
 fn write_subsections(out: &mut Output, subsections: &[Dylink0Subsection]) -> Result<(), Refused>
-    ensures wrote { OnOk result (Wrote subsection_view spell_subsection printable_subsection
-        subsections.now out.old out.new) }
-    ensures refused { IfErr result (λ e. e ≡ Memory) }
+    ensures { Printed entries_form (flat_map entries_in (map subsection_view subsections.now))
+        result out.old out.new }
 {
     for subsection in subsections {
         write_subsection(out, subsection)?;
@@ -199,10 +186,7 @@ fn are_cut(subsections: &[Dylink0Subsection]) -> bool
 /// fails if a subsection of exports or of imports has no entry. It fails if two adjacent
 /// subsections are both of exports, or both of imports.
 pub fn write_dylink(out: &mut Output, section: &Dylink0) -> Result<(), Refused>
-    ensures written { OnOk result (out.new ≡ put out.old (spell_dylink (dylink_view section.now))) }
-    ensures printable { OnOk result (printable_dylink (dylink_view section.now) ≡ true) }
-    ensures refused { IfErr result (λ e. e ≢ Memory
-        → printable_dylink (dylink_view section.now) ≡ false) }
+    ensures { Printed dylink_form (dylink_view section.now) result out.old out.new }
 {
     if !are_cut(&section.subsections) {
         return Err(Refused::Section);
@@ -221,6 +205,7 @@ impl PrintPart for Dylink0<'_> {
 
     ghost printing = { dylink_printing };
 
+    #[tactic(auto, using(wat_print::specs::Laws::Written::puts_put, wat_print::specs::Laws::Written::put_both))]
     fn write(&self, out: &mut Output) -> Result<(), Refused> {
         out.open()?;
         write_dylink(out, self)?;

@@ -1,12 +1,10 @@
 //! Printing of exports and their types.
 
-ghost use Rattle.std.specs.Prelude.{◌≡◌, ◌≢◌, OnOk, IfErr, true, false};
+ghost use Rattle.std.specs.Prelude.{◌≡◌};
 ghost use Rattle.wat_links.specs.Export.{export_kind, ExportTy, export_view, export_};
 ghost use Rattle.wat_links.specs.Export.{ExportTypeTy, export_type_view, export_type};
-ghost use Rattle.wat_print.specs.Text.{put};
-ghost use Rattle.wat_print.specs.declared.fault.Refused.TheVariants.{Memory};
-ghost use Rattle.wat_print_module.specs.Export.{export_kind_word, spell_export, printable_export};
-ghost use Rattle.wat_print_module.specs.Export.{spell_export_type, printable_export_type};
+ghost use Rattle.wat_print.specs.Prints.{Printed};
+ghost use Rattle.wat_print_module.specs.Export.{export_kind_word, export_form, export_type_form};
 ghost use Rattle.wat_print_module.specs.LinkPrintings.{export_kind_printing, export_printing};
 ghost use Rattle.wat_print_module.specs.LinkPrintings.{export_type_printing};
 
@@ -30,11 +28,9 @@ fn word_of(kind: ExportKind) -> &'static str
 }
 
 /// Writes an export, without its parentheses (Text Format, Modules, "Exports").
+#[tactic(auto, using(wat_print::specs::Laws::Written::put_both))]
 pub fn write_export(out: &mut Output, export: &Export) -> Result<(), Refused>
-    ensures written { OnOk result (out.new ≡ put out.old (spell_export (export_view export.now))) }
-    ensures printable { OnOk result (printable_export (export_view export.now) ≡ true) }
-    ensures refused { IfErr result (λ e. e ≢ Memory
-        → printable_export (export_view export.now) ≡ false) }
+    ensures { Printed export_form (export_view export.now) result out.old out.new }
 {
     out.word("export")?;
     out.text(export.name)?;
@@ -45,12 +41,10 @@ pub fn write_export(out: &mut Output, export: &Export) -> Result<(), Refused>
 }
 
 /// Writes the type of an export: `export`, its name, and the signature in parentheses.
+#[tactic(auto, using(wat_print::specs::Laws::Written::put_both))]
 pub fn write_export_type(out: &mut Output, export: &ExportType) -> Result<(), Refused>
-    ensures written { OnOk result (out.new ≡ put out.old
-        (spell_export_type (export_type_view export.now))) }
-    ensures printable { OnOk result (printable_export_type (export_type_view export.now) ≡ true) }
-    ensures refused { IfErr result (λ e. e ≢ Memory
-        → printable_export_type (export_type_view export.now) ≡ false) }
+    ensures { Printed export_type_form (export_type_view export.now) result out.old
+        out.new }
 {
     out.word("export")?;
     out.text(export.name)?;

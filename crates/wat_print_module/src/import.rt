@@ -1,18 +1,15 @@
 //! Printing of imports.
 
-ghost use Rattle.std.specs.Prelude.{◌≡◌, ◌≢◌, OnOk, IfErr, true, false, map};
-ghost use Rattle.std.specs.Str.{is_utf8};
+ghost use Rattle.std.specs.Prelude.{◌≡◌, map};
 ghost use Rattle.wat_links.specs.Forms.{imports};
 ghost use Rattle.wat_links.specs.Import.{typed_view, named_view, items_view, ImportsTy, module_of};
 ghost use Rattle.wat_links.specs.Import.{imports_view};
 ghost use Rattle.wat_links.specs.Item.{sig_view};
-ghost use Rattle.wat_print.specs.Parts.{each, Wrote};
-ghost use Rattle.wat_print.specs.Text.{put};
-ghost use Rattle.wat_print.specs.declared.fault.Refused.TheVariants.{Memory};
-ghost use Rattle.wat_print_module.specs.Import.{spell_typed, printable_typed, spell_named};
-ghost use Rattle.wat_print_module.specs.Import.{printable_shared, spell_items, printable_items};
-ghost use Rattle.wat_print_module.specs.Import.{spell_imports, printable_imports};
-ghost use Rattle.wat_print_module.specs.Item.{spell_sig_group};
+ghost use Rattle.wat_print.specs.Form.{paren_form};
+ghost use Rattle.wat_print.specs.Prints.{Printed};
+ghost use Rattle.wat_print_module.specs.Import.{typed_form, typed_items_form, named_form};
+ghost use Rattle.wat_print_module.specs.Import.{named_items_form, shared_form, items_form};
+ghost use Rattle.wat_print_module.specs.Import.{imports_form};
 ghost use Rattle.wat_print_module.specs.LinkPrintings.{imports_printing};
 
 use crate::item::write_sig_group;
@@ -21,11 +18,9 @@ use wat_links::{ImportGroup1Item, ImportGroup2Item, ImportItems, ImportItemsOf, 
 use wat_print::{Output, Refused};
 
 /// Writes an item with its signature: `( item name ( ItemSig ) )`.
+#[tactic(auto, using(wat_print::specs::Laws::Written::put_both))]
 fn write_typed(out: &mut Output, item: &ImportGroup1Item) -> Result<(), Refused>
-    ensures written { OnOk result (out.new ≡ put out.old (spell_typed (typed_view item.now))) }
-    ensures printable { OnOk result (printable_typed (typed_view item.now) ≡ true) }
-    ensures refused { IfErr result (λ e. e ≢ Memory
-        → printable_typed (typed_view item.now) ≡ false) }
+    ensures { Printed typed_form (typed_view item.now) result out.old out.new }
 {
     out.open()?;
     out.word("item")?;
@@ -35,11 +30,9 @@ fn write_typed(out: &mut Output, item: &ImportGroup1Item) -> Result<(), Refused>
 }
 
 /// Writes items with their signatures in order.
+#[tactic(auto, using(std::proofs::lemmas::List::drop_more, wat_print::specs::Laws::Written::put_both))]
 fn write_typed_items(out: &mut Output, items: &[ImportGroup1Item]) -> Result<(), Refused>
-    ensures wrote { OnOk result (Wrote typed_view spell_typed printable_typed items.now out.old
-        out.new) }
-    ensures refused { IfErr result (λ e. e ≢ Memory
-        → each printable_typed (map typed_view items.now) ≡ false) }
+    ensures { Printed typed_items_form (map typed_view items.now) result out.old out.new }
 {
     for item in items {
         write_typed(out, item)?;
@@ -48,10 +41,9 @@ fn write_typed_items(out: &mut Output, items: &[ImportGroup1Item]) -> Result<(),
 }
 
 /// Writes an item that shares its signature: `( item name )`.
+#[tactic(auto, using(wat_print::specs::Laws::Written::put_both))]
 fn write_named(out: &mut Output, item: &ImportGroup2Item) -> Result<(), Refused>
-    ensures written { OnOk result (out.new ≡ put out.old (spell_named (named_view item.now))) }
-    ensures printable { OnOk result (is_utf8 (named_view item.now) ≡ true) }
-    ensures refused { IfErr result (λ e. e ≡ Memory) }
+    ensures { Printed named_form (named_view item.now) result out.old out.new }
 {
     out.open()?;
     out.word("item")?;
@@ -60,9 +52,9 @@ fn write_named(out: &mut Output, item: &ImportGroup2Item) -> Result<(), Refused>
 }
 
 /// Writes items that share a signature in order.
+#[tactic(auto, using(std::proofs::lemmas::List::drop_more, wat_print::specs::Laws::Written::put_both))]
 fn write_named_items(out: &mut Output, items: &[ImportGroup2Item]) -> Result<(), Refused>
-    ensures wrote { OnOk result (Wrote named_view spell_named is_utf8 items.now out.old out.new) }
-    ensures refused { IfErr result (λ e. e ≡ Memory) }
+    ensures { Printed named_items_form (map named_view items.now) result out.old out.new }
 {
     for item in items {
         write_named(out, item)?;
@@ -72,9 +64,7 @@ fn write_named_items(out: &mut Output, items: &[ImportGroup2Item]) -> Result<(),
 
 /// Writes the signature that items share. It fails with Label if the signature has an identifier.
 fn write_shared(out: &mut Output, sig: &ItemSig) -> Result<(), Refused>
-    ensures written { OnOk result (out.new ≡ put out.old (spell_sig_group (sig_view sig.now))) }
-    ensures printable { OnOk result (printable_shared (sig_view sig.now) ≡ true) }
-    ensures refused { IfErr result (λ e. e ≢ Memory → printable_shared (sig_view sig.now) ≡ false) }
+    ensures { Printed (paren_form shared_form) (sig_view sig.now) result out.old out.new }
 {
     if sig.id.is_some() {
         return Err(Refused::Label);
@@ -83,11 +73,9 @@ fn write_shared(out: &mut Output, sig: &ItemSig) -> Result<(), Refused>
 }
 
 /// Writes the items of an import.
+#[tactic(auto, using(wat_print::specs::Laws::Written::put_both))]
 fn write_items(out: &mut Output, items: &ImportItems) -> Result<(), Refused>
-    ensures written { OnOk result (out.new ≡ put out.old (spell_items (items_view items.now))) }
-    ensures printable { OnOk result (printable_items (items_view items.now) ≡ true) }
-    ensures refused { IfErr result (λ e. e ≢ Memory
-        → printable_items (items_view items.now) ≡ false) }
+    ensures { Printed items_form (items_view items.now) result out.old out.new }
 {
     match items {
         ImportItemsOf::Single { name, sig, .. } => {
@@ -119,12 +107,9 @@ fn module_name<'a>(items: &ImportItems<'a>) -> &'a str
 /// Writes an import, without its parentheses (Text Format, Modules, "Imports", with the compact
 /// forms of the proposal "Compact Import Section"). It fails with Label if items share a signature
 /// that has an identifier.
+#[tactic(auto, using(wat_print::specs::Laws::Written::put_both))]
 pub fn write_imports(out: &mut Output, imports: &Imports) -> Result<(), Refused>
-    ensures written { OnOk result (out.new ≡ put out.old
-        (spell_imports (imports_view imports.now))) }
-    ensures printable { OnOk result (printable_imports (imports_view imports.now) ≡ true) }
-    ensures refused { IfErr result (λ e. e ≢ Memory
-        → printable_imports (imports_view imports.now) ≡ false) }
+    ensures { Printed imports_form (imports_view imports.now) result out.old out.new }
 {
     out.word("import")?;
     out.text(module_name(&imports.items))?;

@@ -1,11 +1,13 @@
 //! Printing of the signatures of imported and exported items.
 
-ghost use Rattle.std.specs.Prelude.{◌≡◌, ◌≢◌, OnOk, IfErr, true, false};
+ghost use Rattle.std.specs.Prelude.{◌≡◌, codes};
 ghost use Rattle.wat_links.specs.Item.{item_kind_view, SigTy, sig_view, item_sig};
-ghost use Rattle.wat_print.specs.Text.{put};
-ghost use Rattle.wat_print.specs.declared.fault.Refused.TheVariants.{Memory};
-ghost use Rattle.wat_print_module.specs.Item.{item_word, spell_item, printable_item, spell_sig};
-ghost use Rattle.wat_print_module.specs.Item.{printable_sig, spell_sig_group};
+ghost use Rattle.wat_types.specs.Function.{function_view};
+ghost use Rattle.wat_types.specs.Use.{use_view};
+ghost use Rattle.wat_print.specs.Form.{paren_form, group_form};
+ghost use Rattle.wat_print.specs.Prints.{Printed};
+ghost use Rattle.wat_print.specs.Use.{use_form};
+ghost use Rattle.wat_print_module.specs.Item.{item_word, item_form, sig_form};
 ghost use Rattle.wat_print_module.specs.LinkPrintings.{sig_printing};
 
 use crate::traits::PrintPart;
@@ -31,13 +33,10 @@ fn word_of(kind: &ItemKind) -> &'static str
 }
 
 /// Writes `( exact TypeUse )`.
+#[tactic(auto, using(wat_print::specs::Laws::Written::put_both))]
 fn write_exact(out: &mut Output, ty: &TypeUse<FunctionType>) -> Result<(), Refused>
-    ensures written { OnOk result (out.new ≡ put out.old
-        (spell_item (item_kind_view (ItemKind.FuncExact ty.now)))) }
-    ensures printable { OnOk result
-        (printable_item (item_kind_view (ItemKind.FuncExact ty.now)) ≡ true) }
-    ensures refused { IfErr result (λ e. e ≢ Memory
-        → printable_item (item_kind_view (ItemKind.FuncExact ty.now)) ≡ false) }
+    ensures { Printed (group_form (codes "exact") use_form) (use_view function_view ty.now) result
+        out.old out.new }
 {
     out.open()?;
     out.word("exact")?;
@@ -48,11 +47,7 @@ fn write_exact(out: &mut Output, ty: &TypeUse<FunctionType>) -> Result<(), Refus
 /// Writes the type of an item (Text Format, Types, "External Types"), an exact function type as
 /// `( exact .. )`.
 fn write_kind(out: &mut Output, kind: &ItemKind) -> Result<(), Refused>
-    ensures written { OnOk result (out.new ≡ put out.old
-        (spell_item (item_kind_view kind.now))) }
-    ensures printable { OnOk result (printable_item (item_kind_view kind.now) ≡ true) }
-    ensures refused { IfErr result (λ e. e ≢ Memory
-        → printable_item (item_kind_view kind.now) ≡ false) }
+    ensures { Printed item_form (item_kind_view kind.now) result out.old out.new }
 {
     match kind {
         ItemKind::Func(ty) => write_use(out, ty),
@@ -66,10 +61,9 @@ fn write_kind(out: &mut Output, kind: &ItemKind) -> Result<(), Refused>
 
 /// Writes the signature of an imported or exported item (Text Format, Types, "External Types"): the
 /// word of its kind, its identifier and name, and its type.
+#[tactic(auto, using(wat_print::specs::Laws::Written::put_both))]
 pub fn write_sig(out: &mut Output, sig: &ItemSig) -> Result<(), Refused>
-    ensures written { OnOk result (out.new ≡ put out.old (spell_sig (sig_view sig.now))) }
-    ensures printable { OnOk result (printable_sig (sig_view sig.now) ≡ true) }
-    ensures refused { IfErr result (λ e. e ≢ Memory → printable_sig (sig_view sig.now) ≡ false) }
+    ensures { Printed sig_form (sig_view sig.now) result out.old out.new }
 {
     out.word(word_of(&sig.kind))?;
     write_label(out, &sig.id, &sig.name)?;
@@ -77,10 +71,9 @@ pub fn write_sig(out: &mut Output, sig: &ItemSig) -> Result<(), Refused>
 }
 
 /// Writes a signature in parentheses.
+#[tactic(auto, using(wat_print::specs::Laws::Written::put_both))]
 pub fn write_sig_group(out: &mut Output, sig: &ItemSig) -> Result<(), Refused>
-    ensures written { OnOk result (out.new ≡ put out.old (spell_sig_group (sig_view sig.now))) }
-    ensures printable { OnOk result (printable_sig (sig_view sig.now) ≡ true) }
-    ensures refused { IfErr result (λ e. e ≢ Memory → printable_sig (sig_view sig.now) ≡ false) }
+    ensures { Printed (paren_form sig_form) (sig_view sig.now) result out.old out.new }
 {
     out.open()?;
     write_sig(out, sig)?;

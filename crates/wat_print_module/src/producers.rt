@@ -1,27 +1,24 @@
 //! Printing of the `producers` section.
 
-ghost use Rattle.std.specs.Prelude.{◌≡◌, ◌≢◌, List, OnOk, IfOk, IfErr, true, false, map, flat_map};
+ghost use Rattle.std.specs.Prelude.{◌≡◌, List, IfOk, map};
+ghost use Rattle.wat_tokens.specs.Tests.{more};
 ghost use Rattle.wat_tokens.specs.Groups.{paren};
-ghost use Rattle.wat_links.specs.Producers.{producers_view, producers};
-ghost use Rattle.wat_print.specs.Parts.{each, Wrote};
-ghost use Rattle.wat_print.specs.Text.{put};
-ghost use Rattle.wat_print.specs.declared.fault.Refused.TheVariants.{Memory};
+ghost use Rattle.wat_links.specs.Producers.{names_view, producers_view, producers};
+ghost use Rattle.wat_print.specs.Form.{many_form};
+ghost use Rattle.wat_print.specs.Prints.{Printed};
 ghost use Rattle.wat_print_module.specs.LinkPrintings.{producers_printing};
-ghost use Rattle.wat_print_module.specs.Producers.{ProducedTy, spell_produced, printable_versioned};
-ghost use Rattle.wat_print_module.specs.Producers.{spell_produced_field, printable_produced_field};
-ghost use Rattle.wat_print_module.specs.Producers.{field_of_word, fields_behind, spell_producers};
-ghost use Rattle.wat_print_module.specs.Producers.{printable_producers, produced_view};
+ghost use Rattle.wat_print_module.specs.Producers.{ProducedTy, produced_view, produced_form};
+ghost use Rattle.wat_print_module.specs.Producers.{field_form, field_of_word, fields_behind};
+ghost use Rattle.wat_print_module.specs.Producers.{fields_form, producers_form};
 
 use crate::traits::PrintPart;
 use wat_links::Producers;
 use wat_print::{Output, Refused};
 
 /// Writes an entry: `( word name version )`.
+#[tactic(auto, using(wat_print::specs::Laws::Written::put_both))]
 fn write_produced(out: &mut Output, word: &str, name: &str, version: &str) -> Result<(), Refused>
-    ensures written { OnOk result (out.new ≡ put out.old
-        (spell_produced word.now (name.now, version.now))) }
-    ensures printable { OnOk result (printable_versioned (name.now, version.now) ≡ true) }
-    ensures refused { IfErr result (λ e. e ≡ Memory) }
+    ensures { Printed (produced_form word.now) (name.now, version.now) result out.old out.new }
 {
     out.open()?;
     out.word(word)?;
@@ -31,11 +28,10 @@ fn write_produced(out: &mut Output, word: &str, name: &str, version: &str) -> Re
 }
 
 /// Writes the entries of a field.
+#[tactic(auto, using(std::proofs::lemmas::List::drop_more, wat_print::specs::Laws::Written::put_both))]
 fn write_entries(out: &mut Output, word: &str, entries: &[(&str, &str)]) -> Result<(), Refused>
-    ensures wrote { OnOk result (Wrote (λ e. (e.0.now, e.1.now)) (spell_produced word.now)
-        printable_versioned
-        entries.now out.old out.new) }
-    ensures refused { IfErr result (λ e. e ≡ Memory) }
+    ensures { Printed (many_form more (produced_form word.now)) (names_view entries.now) result
+        out.old out.new }
 {
     for entry in entries {
         write_produced(out, word, entry.0, entry.1)?;
@@ -50,14 +46,10 @@ fn write_field<'f, 'a>(
     word: &str,
     fields: &'f [(&'a str, Vec<(&'a str, &'a str)>)],
 ) -> Result<&'f [(&'a str, Vec<(&'a str, &'a str)>)], Refused>
-    ensures written { OnOk result (out.new ≡ put out.old (flat_map spell_produced_field
-        (field_of_word word.now (map produced_view fields.now)))) }
-    ensures printable { OnOk result (each printable_produced_field
-        (field_of_word word.now (map produced_view fields.now)) ≡ true) }
+    ensures printed { Printed (many_form more field_form)
+        (field_of_word word.now (map produced_view fields.now)) result out.old out.new }
     ensures behind { IfOk result (λ rest. map produced_view rest.now
         ≡ fields_behind word.now (map produced_view fields.now)) }
-    ensures refused { IfErr result (λ e. e ≢ Memory → each printable_produced_field
-        (field_of_word word.now (map produced_view fields.now)) ≡ false) }
 {
     if fields.is_empty() || fields[0].0 != word {
         return Ok(fields);
@@ -75,11 +67,7 @@ fn write_fields<'a>(
     out: &mut Output,
     fields: &[(&'a str, Vec<(&'a str, &'a str)>)],
 ) -> Result<(), Refused>
-    ensures written { OnOk result (out.new ≡ put out.old
-        (flat_map spell_produced_field (map produced_view fields.now))) }
-    ensures printable { OnOk result (printable_producers (map produced_view fields.now) ≡ true) }
-    ensures refused { IfErr result (λ e. e ≢ Memory
-        → printable_producers (map produced_view fields.now) ≡ false) }
+    ensures { Printed fields_form (map produced_view fields.now) result out.old out.new }
 {
     let behind_languages = write_field(out, "language", fields)?;
     let behind_sdks = write_field(out, "sdk", behind_languages)?;
@@ -94,11 +82,7 @@ fn write_fields<'a>(
 /// fails unless its fields are `language`, `sdk` and `processed-by`, in this order, each at most
 /// once and with an entry.
 pub fn write_producers(out: &mut Output, section: &Producers) -> Result<(), Refused>
-    ensures written { OnOk result (out.new ≡ put out.old
-        (spell_producers (producers_view section.now))) }
-    ensures printable { OnOk result (printable_producers (producers_view section.now) ≡ true) }
-    ensures refused { IfErr result (λ e. e ≢ Memory
-        → printable_producers (producers_view section.now) ≡ false) }
+    ensures { Printed producers_form (producers_view section.now) result out.old out.new }
 {
     out.annotation("producers")?;
     write_fields(out, &section.fields)?;
@@ -115,6 +99,7 @@ impl PrintPart for Producers<'_> {
 
     ghost printing = { producers_printing };
 
+    #[tactic(auto, using(wat_print::specs::Laws::Written::puts_put, wat_print::specs::Laws::Written::put_both))]
     fn write(&self, out: &mut Output) -> Result<(), Refused> {
         out.open()?;
         write_producers(out, self)?;

@@ -1,14 +1,12 @@
 //! Printing of custom sections with any name.
 
-ghost use Rattle.std.specs.Prelude.{◌≡◌, OnOk, true, IfErr};
+ghost use Rattle.std.specs.Prelude.{◌≡◌, IfErr, map};
 ghost use Rattle.wat_tokens.specs.Groups.{paren};
 ghost use Rattle.wat_links.specs.Raw.{RawTy, raw_view, raw_custom};
-ghost use Rattle.wat_print.specs.Parts.{Wrote};
-ghost use Rattle.wat_print.specs.Text.{put};
-ghost use Rattle.wat_print_module.specs.Custom.{spell_raw, printable_raw};
-ghost use Rattle.wat_print_module.specs.LinkPrintings.{raw_printing};
-ghost use Rattle.wat_print.specs.Strings.{spell_string, printable_string};
+ghost use Rattle.wat_print.specs.Prints.{Printed};
 ghost use Rattle.wat_print.specs.declared.fault.Refused.TheVariants.{Memory};
+ghost use Rattle.wat_print_module.specs.Custom.{pieces_form, raw_form};
+ghost use Rattle.wat_print_module.specs.LinkPrintings.{raw_printing};
 
 use crate::custom_place::write_place_group;
 use crate::traits::PrintPart;
@@ -17,9 +15,9 @@ use wat_print::string::write_string;
 use wat_print::{Output, Refused};
 
 /// Writes strings of bytes in order.
+#[tactic(auto, using(std::proofs::lemmas::List::drop_more, wat_print::specs::Laws::Written::put_both))]
 pub fn write_pieces(out: &mut Output, pieces: &[&[u8]]) -> Result<(), Refused>
-    ensures wrote { OnOk result (Wrote (λ s. s.now) spell_string printable_string pieces.now out.old
-        out.new) }
+    ensures printed { Printed pieces_form (map (λ s. s.now) pieces.now) result out.old out.new }
     ensures refused { IfErr result (λ e. e ≡ Memory) }
 {
     for piece in pieces {
@@ -30,9 +28,9 @@ pub fn write_pieces(out: &mut Output, pieces: &[&[u8]]) -> Result<(), Refused>
 
 /// Writes a custom section with any name, without its parentheses (Text Format, "Custom
 /// Annotation"). The place is omitted if the section comes after the last section.
+#[tactic(auto, using(wat_print::specs::Laws::Written::put_both))]
 pub fn write_raw(out: &mut Output, section: &RawCustomSection) -> Result<(), Refused>
-    ensures written { OnOk result (out.new ≡ put out.old (spell_raw (raw_view section.now))) }
-    ensures printable { OnOk result (printable_raw (raw_view section.now) ≡ true) }
+    ensures printed { Printed raw_form (raw_view section.now) result out.old out.new }
     ensures refused { IfErr result (λ e. e ≡ Memory) }
 {
     out.annotation("custom")?;
@@ -51,6 +49,7 @@ impl PrintPart for RawCustomSection<'_> {
 
     ghost printing = { raw_printing };
 
+    #[tactic(auto, using(wat_print::specs::Laws::Written::puts_put, wat_print::specs::Laws::Written::put_both))]
     fn write(&self, out: &mut Output) -> Result<(), Refused> {
         out.open()?;
         write_raw(out, self)?;

@@ -1,10 +1,7 @@
 //! The parts of a module that can be printed.
 
-ghost use Rattle.std.specs.Prelude.{◌≡◌, ◌≢◌, OnOk, IfErr, true, false};
 ghost use Rattle.wat_tokens.specs.Production.{Production};
-ghost use Rattle.wat_print.specs.Layout.{Writes};
-ghost use Rattle.wat_print.specs.Printed.{Printing};
-ghost use Rattle.wat_print.specs.declared.fault.Refused.TheVariants.{Memory};
+ghost use Rattle.wat_print.specs.Printed.{Printing, Written};
 
 use wat_print::{Output, Print, Refused};
 
@@ -32,10 +29,7 @@ pub trait PrintPart {
     /// For a value that can't be written it fails with the first reason that it meets; for any
     /// other value it fails only with Memory. The tokens written before an error stay written.
     fn write(&self, out: &mut Output) -> Result<(), Refused>
-        ensures written { OnOk result (Writes (printing.spell (view self.now)) out.old out.new) }
-        ensures printable { OnOk result (printing.printable (view self.now) ≡ true) }
-        ensures refused { IfErr result (λ e. e ≢ Memory
-            → printing.printable (view self.now) ≡ false) };
+        ensures { Written printing (view self.now) result out.old out.new };
 }
 
 /// A value in the form that [`wat_print::print`] accepts.

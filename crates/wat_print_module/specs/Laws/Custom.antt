@@ -1,115 +1,85 @@
--- Laws: round trips of custom sections.
-use Rattle.std.specs.Prelude.{◌≡◌, ℕ, true, false, ◌&&◌, List, [], ◌∷◌, ◌++◌, codes, flat_map}
-use Rattle.std.specs.Str.{is_utf8}
-use Rattle.std.proofs.Common.{refl, inl, inr, lit≤}
+-- Laws: custom sections are read again.
+use Rattle.std.specs.Prelude.{◌≡◌, true, List, ◌++◌, codes}
+use Rattle.std.proofs.Common.{refl, rules, inl, inr, lit≤}
 use Rattle.std.proofs.lemmas.Bool.{and_parts}
-use Rattle.wat_lexer.specs.Token.{Tok, String}
-use Rattle.wat_tokens.specs.Parts.{seq, made}
-use Rattle.wat_tokens.specs.Strings.{string, text}
-use Rattle.wat_tokens.specs.Tests.{more, begins_lparen}
+use Rattle.wat_lexer.specs.Token.{Tok}
+use Rattle.wat_tokens.specs.Groups.{paren}
+use Rattle.wat_tokens.specs.Spelled.{in_parens}
+use Rattle.wat_tokens.specs.Tests.{more}
 use Rattle.wat_links.specs.Custom.{CustomTy, raw, produced, linked, begins_annotated, custom}
-use Rattle.wat_links.specs.Raw.{RawTy, raw_of, raw_place, raw_data, raw_custom}
-use Rattle.wat_links.specs.declared.custom_place.CustomPlace.{CustomPlace}
+use Rattle.wat_links.specs.Raw.{raw_of, raw_data, raw_custom}
+use Rattle.wat_print.specs.Form.{Test, paren_form}
+use Rattle.wat_print.specs.Prints.{Prints}
 use Rattle.wat_print.specs.WellFormed.{WellFormed}
-use Rattle.wat_print.specs.Parts.{each}
-use Rattle.wat_print.specs.Laws.Only.{OnlyPrintable, only_any, only_where, only_many, only_seq}
-use Rattle.wat_print.specs.Laws.Only.{only_made, only_weaker}
-use Rattle.wat_print.specs.Laws.Parts.{many_here, well_formed_both, well_formed_each}
-use Rattle.wat_print_instr.specs.Laws.Places.{both_here}
-use Rattle.wat_print_module.specs.Custom.{spell_raw, printable_raw, spell_custom, printable_custom}
-use Rattle.wat_print_module.specs.Custom.{spell_raw_group, spell_custom_group}
-use Rattle.wat_print_module.specs.CustomPlace.{spell_place_group}
-use Rattle.wat_print.specs.Strings.{spell_string, printable_string}
-use Rattle.wat_print_module.specs.Laws.Dylink.{dylink_here, dylink_well_formed, dylink_only}
-use Rattle.wat_print_module.specs.Laws.CustomPlace.{place_group_here, place_group_well_formed}
-use Rattle.wat_print_module.specs.Laws.Producers.{producers_here, producers_well_formed}
-use Rattle.wat_print_module.specs.Laws.Producers.{producers_only}
-use Rattle.wat_print.specs.Laws.Strings.{text_here, text_well_formed, text_only}
-use Rattle.wat_print.specs.Laws.Strings.{string_here, string_well_formed, string_only}
-use Rattle.wat_print_module.specs.Laws.Strings.{annotated_here, only_annotated}
-use Rattle.wat_print_module.specs.Laws.Strings.{well_formed_annotated, custom_annotation}
-use Rattle.wat_print_module.specs.Laws.Strings.{no_more_opens}
+use Rattle.wat_print.specs.Laws.Form.{seq_prints, made_prints, whole_prints, many_prints}
+use Rattle.wat_print.specs.Laws.Only.{only_where, only_made}
+use Rattle.wat_print_module.specs.Custom.{pieces_form, raw_parts, raw_form, custom_form}
+use Rattle.wat_print_module.specs.Dylink.{dylink_form}
+use Rattle.wat_print_module.specs.Producers.{producers_form}
+use Rattle.wat_print_module.specs.Laws.CustomPlace.{place_group_prints}
+use Rattle.wat_print_module.specs.Laws.Dylink.{dylink_reads}
+use Rattle.wat_print_module.specs.Laws.Producers.{producers_reads}
+use Rattle.wat_print_module.specs.Laws.Strings.{string_prints, text_prints, Annotates, annotates}
+use Rattle.wat_print_module.specs.Laws.Strings.{annotation_prints, custom_annotation}
 
 -- ---- raw sections
 
-data_opens : (ss : List (List ℕ)) (r : List Tok) → more r ≡ false
-    → begins_lparen (flat_map spell_string ss ++ r) ≡ false
-data_opens [] r e = no_more_opens r e
-data_opens (s ∷ ss) r e = refl
-
-data_here : (ss : List (List ℕ)) (r : List Tok) → each printable_string ss ≡ true → more r ≡ false
-    → raw_data.spells ss (flat_map spell_string ss) r
+pieces_prints : Prints pieces_form raw_data
 unfolding raw_data
-data_here ss r f e =
-    many_here more string spell_string printable_string string_here (λ v x o. refl) ss r
-    f e
+pieces_prints = many_prints more string_prints (lit≤ tt) (search rules) (search rules)
 
--- at the end of its group
-pub raw_here : (v : RawTy) (r : List Tok) → printable_raw v ≡ true → more r ≡ false
-    → raw_custom.spells v (spell_raw v) r
+raw_reads : Annotates raw_form raw_custom
 unfolding raw_custom
-raw_here v r f e =
-    let a = and_parts (is_utf8 v.name) (each printable_string v.data) f in
-    let p = spell_place_group v.place in
-    let d = flat_map spell_string v.data in
-    let g = seq raw_place raw_data in
-    annotated_here (codes "custom") (made (λ v. raw_of v.0 v.1.0 v.1.1) (seq text g)) v
-    (String v.name ∷ (p ++ d)) r refl (
-      (v.name, (v.place, v.data)),
-      both_here text g v.name (v.place, v.data) (spell_string v.name) (p ++ d) r
-          (text_here v.name a.0 ((p ++ d) ++ r))
-          (both_here raw_place raw_data v.place v.data p d r
-          (place_group_here v.place (d ++ r) (data_opens v.data r e)) (data_here v.data r a.1 e)),
-      refl,
-      refl,
-    )
+raw_reads =
+    annotates (whole_prints (made_prints (seq_prints text_prints
+    (seq_prints place_group_prints pieces_prints (search rules)) (search rules))
+    (λ v. raw_of v.0 v.1.0 v.1.1)) raw_parts (λ r h. refl) (λ r h. h) (λ v h. h)) refl
+    (codes "custom") custom_annotation refl refl
 
-pub raw_well_formed : (v : RawTy) → printable_raw v ≡ true → WellFormed (spell_raw_group v)
-raw_well_formed v f =
-    let a = and_parts (is_utf8 v.name) (each printable_string v.data) f in
-    let p = spell_place_group v.place in
-    let d = flat_map spell_string v.data in
-    well_formed_annotated (codes "custom") (String v.name ∷ (p ++ d)) custom_annotation refl
-    (well_formed_both (spell_string v.name) (p ++ d) (text_well_formed v.name a.0)
-    (well_formed_both p d (place_group_well_formed v.place)
-    (well_formed_each spell_string printable_string string_well_formed v.data a.1)))
-
--- a section with any place can be written
-place_printable : (v : List ℕ × (CustomPlace × List (List ℕ)))
-    → is_utf8 v.0 && (true && each printable_string v.1.1) ≡ true
-    → printable_raw (raw_of v.0 v.1.0 v.1.1) ≡ true
-place_printable v h = h
-
-pub raw_only : OnlyPrintable raw_custom printable_raw
-unfolding raw_custom raw_data
-raw_only =
-    only_annotated (codes "custom")
-    (only_made (λ _. true) (λ v. raw_of v.0 v.1.0 v.1.1) printable_raw
-    (only_weaker (λ v. printable_raw (raw_of v.0 v.1.0 v.1.1)) place_printable
-    (only_seq text_only (only_seq (only_any raw_place) (only_many more (lit≤ tt) string_only)))))
+pub raw_prints : Prints (paren_form raw_form) (paren raw_custom)
+raw_prints = annotation_prints raw_reads refl
 
 -- ---- custom sections
 
--- at the end of its group
-pub custom_here : (v : CustomTy) (r : List Tok) → printable_custom v ≡ true → more r ≡ false
-    → custom.spells v (spell_custom v) r
-unfolding custom
-custom_here (produced fs) r f e = inl (refl, (fs, producers_here fs r f e, refl, refl))
-custom_here (linked ss) r f e =
-    inr (refl, inl (refl, (ss, dylink_here ss r f e, refl, refl)))
-custom_here (raw v) r f e = inr (refl, inr (refl, (v, raw_here v r f e, refl, refl)))
+custom_nests : (v : CustomTy) → custom_form.ready v ≡ true
+    → WellFormed (in_parens (custom_form.spell v))
+custom_nests (produced fs) h = producers_reads.nests fs h
+custom_nests (linked ss) h = dylink_reads.nests ss h
+custom_nests (raw r) h = raw_reads.nests r h
 
-pub custom_well_formed : (v : CustomTy) → printable_custom v ≡ true
-    → WellFormed (spell_custom_group v)
-custom_well_formed (raw v) f = raw_well_formed v f
-custom_well_formed (produced fs) f = producers_well_formed fs f
-custom_well_formed (linked ss) f = dylink_well_formed ss f
+custom_front : (rest test : Test) → custom_form.Fronts rest test → (v : CustomTy) (r : List Tok)
+    → test (custom_form.spell v ++ r) ≡ true
+custom_front rest test f (produced fs) r = producers_reads.front rest test f.0 fs r
+custom_front rest test f (linked ss) r = dylink_reads.front rest test f.1.0 ss r
+custom_front rest test f (raw v) r = raw_reads.front rest test f.1.1 v r
 
-pub custom_only : OnlyPrintable custom printable_custom
+custom_here : (v : CustomTy) (r : List Tok) → custom_form.ready v ≡ true
+    → custom_form.follows r ≡ true → custom.spells v (custom_form.spell v) r
 unfolding custom
-custom_only =
-    only_where (begins_annotated (codes "producers"))
-    (only_made (λ _. true) produced printable_custom producers_only)
-    (only_where (begins_annotated (codes "dylink.0"))
-    (only_made (λ _. true) linked printable_custom dylink_only)
-    (only_made (λ _. true) raw printable_custom raw_only))
+custom_here (produced fs) r h e =
+    let a = and_parts (producers_form.follows r) _ e in
+    inl (refl, (fs, producers_reads.here fs r h a.0, refl, refl))
+custom_here (linked ss) r h e =
+    let a = and_parts (producers_form.follows r) _ e in
+    let b = and_parts (dylink_form.follows r) (raw_form.follows r) a.1 in
+    inr (refl, inl (refl, (ss, dylink_reads.here ss r h b.0, refl, refl)))
+custom_here (raw v) r h e =
+    let a = and_parts (producers_form.follows r) _ e in
+    let b = and_parts (dylink_form.follows r) (raw_form.follows r) a.1 in
+    inr (refl, inr (refl, (v, raw_reads.here v r h b.1, refl, refl)))
+
+pub custom_reads : Annotates custom_form custom
+unfolding custom
+custom_reads = record {
+  nests = custom_nests;
+  front = custom_front;
+  here = custom_here;
+  only = only_where (begins_annotated (codes "producers"))
+      (only_made (λ _. true) produced custom_form.printable producers_reads.only)
+      (only_where (begins_annotated (codes "dylink.0"))
+      (only_made (λ _. true) linked custom_form.printable dylink_reads.only)
+      (only_made (λ _. true) raw custom_form.printable raw_reads.only));
+}
+
+pub custom_prints : Prints (paren_form custom_form) (paren custom)
+custom_prints = annotation_prints custom_reads refl

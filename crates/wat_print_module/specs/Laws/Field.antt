@@ -20,19 +20,19 @@ use Rattle.wat_print.specs.Laws.Only.{OnlyPrintable, only_where, only_paren, onl
 use Rattle.wat_print.specs.Laws.Parts.{Spells, paren_here, many_told, well_formed_word}
 use Rattle.wat_print.specs.Laws.Parts.{well_formed_paren}
 use Rattle.wat_print.specs.Laws.Reference.{index_here, index_well_formed, index_only}
-use Rattle.wat_print_module.specs.Custom.{spell_custom}
+use Rattle.wat_print_module.specs.Before.{spell_custom}
 use Rattle.wat_print_module.specs.Field.{spell_start, spell_module_field, printable_module_field}
 use Rattle.wat_print_module.specs.Field.{spell_field_group}
-use Rattle.wat_print_module.specs.Laws.Custom.{custom_here, custom_well_formed, custom_only}
+use Rattle.wat_print_module.specs.Laws.Before.{custom_here, custom_well_formed, custom_only}
+use Rattle.wat_print_module.specs.Laws.Before.{export_here, export_well_formed, export_only}
+use Rattle.wat_print_module.specs.Laws.Before.{imports_here, imports_well_formed, imports_only}
 use Rattle.wat_print_module.specs.Laws.Data.{data_here, data_well_formed, data_only}
 use Rattle.wat_print_module.specs.Laws.Elem.{elem_here, elem_well_formed, elem_only}
-use Rattle.wat_print_module.specs.Laws.Export.{export_here, export_well_formed, export_only}
 use Rattle.wat_print_module.specs.Laws.FieldHead.{EndsField}
 use Rattle.wat_print_module.specs.Laws.Body.{field_ends_expression}
 use Rattle.wat_print_module.specs.Laws.Func.{func_here, func_well_formed, func_only}
 use Rattle.wat_print_module.specs.Laws.Global.{global_field_here, global_field_well_formed}
 use Rattle.wat_print_module.specs.Laws.Global.{global_field_only}
-use Rattle.wat_print_module.specs.Laws.Import.{imports_here, imports_well_formed, imports_only}
 use Rattle.wat_print_module.specs.Laws.Memory.{memory_here, memory_well_formed, memory_only}
 use Rattle.wat_print_module.specs.Laws.Folded.{no_word, not_a_word}
 use Rattle.wat_print_module.specs.Laws.Table.{table_here, table_well_formed}
@@ -92,7 +92,7 @@ first_in (a_rec ts) x f n =
 first_in (an_import i) x f n =
     inr (
       refl,
-      inr (refl, inl (refl, (i, imports_here i (RParen ∷ x) f n, refl, refl))),
+      inr (refl, inl (refl, (i, imports_here i x f n, refl, refl))),
     )
 first_in (a_func v) x f n =
     early (a_func v) (spell_module_field (a_func v)) (RParen ∷ x) refl refl refl
@@ -166,7 +166,7 @@ first_in (a_custom v) x f n =
       custom_front v (codes "start") r,
       inr (
         custom_front v (codes "elem") r,
-        inr (custom_front v (codes "data") r, (v, custom_here v r f refl, refl, refl)),
+        inr (custom_front v (codes "data") r, (v, custom_here v x f, refl, refl)),
       ),
     ))))
 

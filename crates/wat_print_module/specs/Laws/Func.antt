@@ -43,7 +43,7 @@ use Rattle.wat_print_module.specs.Laws.FieldHead.{head_only, inline_import_here}
 use Rattle.wat_print_module.specs.Laws.FieldHead.{inline_import_well_formed, inline_import_only}
 use Rattle.wat_print_module.specs.Laws.Fronts.{OnGroup, OnUses, no_export, no_import_word}
 use Rattle.wat_print_module.specs.Laws.Fronts.{use_first, use_alone_first, locals_first}
-use Rattle.wat_print_module.specs.Laws.Item.{exact_only}
+use Rattle.wat_print_module.specs.Laws.Before.{exact_only}
 use Rattle.wat_print_module.specs.Laws.Local.{locals_here, locals_well_formed, locals_only}
 
 -- ---- type uses, exact or not

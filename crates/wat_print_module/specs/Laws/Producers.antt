@@ -2,16 +2,14 @@
 use Rattle.std.specs.Prelude.{◌≡◌, ℕ, true, false, not, ◌&&◌, List, [], ◌∷◌, ◌++◌, codes}
 use Rattle.std.specs.Prelude.{flat_map, map, Option, Some, None, is_some}
 use Rattle.std.specs.Cmp.Lexicographic.{bytes_decides}
-use Rattle.std.specs.Str.{bytes_eq, is_utf8}
-use Rattle.std.proofs.Common.{refl, ap, subst, sym, ◌∙◌, append_assoc, append-nil}
+use Rattle.std.specs.Str.{bytes_eq}
+use Rattle.std.proofs.Common.{refl, rules, arith, ap, subst, sym, ◌∙◌, append_assoc, append-nil}
 use Rattle.std.proofs.lemmas.Bool.{and_parts, false≢true}
 use Rattle.std.proofs.lemmas.Grind.{flat_map-append}
-use Rattle.wat_lexer.specs.Token.{Tok, RParen, Keyword}
-use Rattle.wat_tokens.specs.ManySpells.{many_spells}
-use Rattle.wat_tokens.specs.Parts.{seq, made}
-use Rattle.wat_tokens.specs.Spelled.{in_parens}
-use Rattle.wat_tokens.specs.Strings.{text}
-use Rattle.wat_tokens.specs.Tests.{more, look_up}
+use Rattle.wat_lexer.specs.Token.{Tok, Keyword}
+use Rattle.wat_tokens.specs.Groups.{paren}
+use Rattle.wat_tokens.specs.Parts.{made}
+use Rattle.wat_tokens.specs.Tests.{more, look_up, word_in}
 use Rattle.wat_tokens.specs.Views.{no_items}
 use Rattle.wat_tokens.specs.Laws.Production.{by_test}
 use Rattle.wat_links.specs.ProducerEntry.{field_words, Versioned, ProducerTy, field_word}
@@ -19,21 +17,18 @@ use Rattle.wat_links.specs.ProducerEntry.{producer_entry}
 use Rattle.wat_links.specs.Producers.{word_of, same_field, producer_entries, field_entries}
 use Rattle.wat_links.specs.Producers.{with_entries, fields_of, producers}
 use Rattle.wat_links.specs.Laws.Producers.{producer_entry_consumes}
-use Rattle.wat_print.specs.WellFormed.{is_keyword, WellFormed, nothing}
+use Rattle.wat_print.specs.Form.{any, Form, seq_form, many_form, paren_form}
 use Rattle.wat_print.specs.Parts.{each}
-use Rattle.wat_print.specs.Laws.Only.{OnlyPrintable, only_any, only_paren, only_many, only_seq}
-use Rattle.wat_print.specs.Laws.Only.{only_made, only_weaker}
-use Rattle.wat_print.specs.Laws.Parts.{Spells, paren_here, well_formed_group, well_formed_both}
-use Rattle.wat_print.specs.Laws.Parts.{well_formed_each}
-use Rattle.wat_print_instr.specs.Laws.Places.{both_here}
-use Rattle.wat_print_module.specs.Producers.{ProducedTy, spell_produced, spell_produced_field}
-use Rattle.wat_print_module.specs.Producers.{spell_producers, printable_versioned}
-use Rattle.wat_print_module.specs.Producers.{printable_produced_field, field_of_word, fields_behind}
-use Rattle.wat_print_module.specs.Producers.{printable_in_turn, printable_producers}
-use Rattle.wat_print.specs.Strings.{spell_string}
-use Rattle.wat_print.specs.Laws.Strings.{text_here, text_well_formed, text_only}
-use Rattle.wat_print_module.specs.Laws.Strings.{annotated_here, only_annotated}
-use Rattle.wat_print_module.specs.Laws.Strings.{well_formed_annotated, producers_annotation}
+use Rattle.wat_print.specs.Prints.{Prints}
+use Rattle.wat_print.specs.Reference.{OfNamed, named_form}
+use Rattle.wat_print.specs.WellFormed.{is_keyword, WellFormed}
+use Rattle.wat_print.specs.Laws.Form.{one_prints, seq_prints, made_prints, many_prints}
+use Rattle.wat_print.specs.Laws.Form.{paren_prints}
+use Rattle.wat_print_module.specs.Producers.{ProducedTy, versioned_form, produced_form, field_form}
+use Rattle.wat_print_module.specs.Producers.{field_of_word, fields_behind, printable_in_turn}
+use Rattle.wat_print_module.specs.Producers.{printable_producers, fields_form, producers_form}
+use Rattle.wat_print_module.specs.Laws.Strings.{text_prints, Annotates, annotates}
+use Rattle.wat_print_module.specs.Laws.Strings.{annotation_prints, producers_annotation}
 
 -- ---- the words of fields
 
@@ -58,57 +53,40 @@ sdk = held (look_up field_words (codes "sdk")) refl
 abbrev processor : ProducerField
 processor = held (look_up field_words (codes "processed-by")) refl
 
--- the word of the field is read as the field
-abbrev IsRead : ProducerField → Type 0
-IsRead k = Spells field_word k (Keyword (word_of k) ∷ [])
+field_fits : (k : ProducerField) → is_keyword (word_of k) ≡ true
+field_fits k = grind arith
 
-language_read : IsRead language
-unfolding field_word
-language_read r = (Keyword (codes "language"), refl, refl)
+field_reads : (k : ProducerField) → word_in field_words (Keyword (word_of k)) ≡ Some k
+field_reads k = grind arith
 
-sdk_read : IsRead sdk
+field_word_prints : Prints (named_form word_of) field_word
 unfolding field_word
-sdk_read r = (Keyword (codes "sdk"), refl, refl)
-
-processor_read : IsRead processor
-unfolding field_word
-processor_read r = (Keyword (codes "processed-by"), refl, refl)
+field_word_prints =
+    one_prints (word_in field_words) (refl, refl) (λ k. Keyword (word_of k)) (λ _. true)
+    (OfNamed word_of) (λ rest test f k y h i. f k y i) (λ k h. field_fits k) (λ k h. field_reads k)
+    (λ t k a e. refl)
 
 -- ---- entries
 
-entry_here : (k : ProducerField) (x : Versioned) → IsRead k → printable_versioned x ≡ true
-    → Spells producer_entry (k, x) (spell_produced (word_of k) x)
+abbrev entry_form : Form ProducerTy
+entry_form = paren_form (seq_form (named_form word_of) versioned_form)
+
+entry_prints : Prints entry_form producer_entry
 unfolding producer_entry
-entry_here k x w f r =
-    let a = and_parts (is_utf8 x.0) (is_utf8 x.1) f in
-    let n = spell_string x.0 in
-    let v = spell_string x.1 in
-    let t = RParen ∷ r in
-    paren_here (seq field_word (seq text text)) (k, x) (Keyword (word_of k) ∷ (n ++ v)) r
-    (both_here field_word (seq text text) k x (Keyword (word_of k) ∷ []) (n ++ v) t
-    (w ((n ++ v) ++ t))
-    (both_here text text x.0 x.1 n v t (text_here x.0 a.0 (v ++ t)) (text_here x.1 a.1 t)))
+entry_prints =
+    paren_prints (seq_prints field_word_prints (seq_prints text_prints text_prints (search rules))
+    (search rules))
+
+abbrev entries_form : Form (List ProducerTy)
+entries_form = many_form more entry_form
+
+entries_prints : Prints entries_form producer_entries
+unfolding producer_entries
+entries_prints =
+    many_prints more entry_prints producer_entry_consumes (search rules) (search rules)
 
 abbrev entries_of : ProducerField → List Versioned → List ProducerTy
 entries_of k xs = map (λ x. (k, x)) xs
-
--- the entries of a field, before other entries
-entries_here : (k : ProducerField) → IsRead k → (xs : List Versioned) (es : List ProducerTy)
-    (d r : List Tok) → each printable_versioned xs ≡ true → many_spells more producer_entry es d r
-    → many_spells more producer_entry (entries_of k xs ++ es)
-    (flat_map (spell_produced (word_of k)) xs ++ d) r
-entries_here k w [] es d r f m = m
-entries_here k w (x ∷ xs) es d r f m =
-    let a = and_parts (printable_versioned x) (each printable_versioned xs) f in
-    let p = spell_produced (word_of k) x in
-    let q = flat_map (spell_produced (word_of k)) xs in (
-      p,
-      q ++ d,
-      append_assoc p q d,
-      refl,
-      entry_here k x w a.0 ((q ++ d) ++ r),
-      entries_here k w xs es d r a.1 m,
-    )
 
 -- ---- fields as their entries
 
@@ -123,12 +101,6 @@ other_entries : (j k : ProducerField) → same_field j k ≡ false → (xs : Lis
     (es : List ProducerTy) → field_entries k (entries_of j xs ++ es) ≡ field_entries k es
 other_entries j k e [] es = refl
 other_entries j k e (x ∷ xs) es = rw e (other_entries j k e xs es)
-
-spell_with : (w : List ℕ) (xs : List Versioned) (fs : List ProducedTy)
-    → flat_map spell_produced_field (with_entries w xs ++ fs)
-    ≡ flat_map (spell_produced w) xs ++ flat_map spell_produced_field fs
-spell_with w [] fs = refl
-spell_with w (x ∷ xs) fs = refl
 
 -- entries of the three fields
 abbrev three : List Versioned → List Versioned → List Versioned → List ProducerTy
@@ -170,22 +142,29 @@ three_are xs ys zs =
     rw (first_three xs ys zs, second_three xs ys zs, third_three xs ys zs) refl in
     e ∙ append_assoc l s p ∙ ap (λ (q : List ProducedTy). l ++ (s ++ q)) (sym (append-nil p))
 
-abbrev three_spelled : List Versioned → List Versioned → List Versioned → List Tok
-three_spelled xs ys zs =
-    flat_map (spell_produced (codes "language")) xs
-    ++ (flat_map (spell_produced (codes "sdk")) ys
-    ++ (flat_map (spell_produced (codes "processed-by")) zs ++ []))
+plain_spelled : (k : ProducerField) (xs : List Versioned) (es : List ProducerTy)
+    → entries_form.spell (entries_of k xs ++ es)
+    ≡ flat_map (produced_form (word_of k)).spell xs ++ entries_form.spell es
+plain_spelled k [] es = refl
+plain_spelled k (x ∷ xs) es =
+    let p = (produced_form (word_of k)).spell in
+    ap (λ (l : List Tok). p x ++ l) (plain_spelled k xs es)
+    ∙ sym (append_assoc (p x) (flat_map p xs) (entries_form.spell es))
+
+spelled_with : (k : ProducerField) (xs : List Versioned) (es : List ProducerTy)
+    (fs : List ProducedTy)
+    → entries_form.spell es ≡ flat_map field_form.spell fs
+    → entries_form.spell (entries_of k xs ++ es)
+    ≡ flat_map field_form.spell (with_entries (word_of k) xs ++ fs)
+spelled_with k [] es fs e = e
+spelled_with k (x ∷ xs) es fs e =
+    plain_spelled k (x ∷ xs) es
+    ∙ ap (λ (l : List Tok). flat_map (produced_form (word_of k)).spell (x ∷ xs) ++ l) e
 
 spelled_are : (xs ys zs : List Versioned)
-    → flat_map spell_produced_field (three_fields xs ys zs) ≡ three_spelled xs ys zs
+    → entries_form.spell (three xs ys zs) ≡ flat_map field_form.spell (three_fields xs ys zs)
 spelled_are xs ys zs =
-    let a = flat_map (spell_produced (codes "language")) xs in
-    let b = flat_map (spell_produced (codes "sdk")) ys in
-    spell_with (codes "language") xs (with_entries (codes "sdk") ys
-    ++ (with_entries (codes "processed-by") zs ++ []))
-    ∙ ap (λ (q : List Tok). a ++ q)
-    (spell_with (codes "sdk") ys (with_entries (codes "processed-by") zs ++ [])
-    ∙ ap (λ (q : List Tok). b ++ q) (spell_with (codes "processed-by") zs []))
+    spelled_with language xs _ _ (spelled_with sdk ys _ _ (spelled_with processor zs [] [] refl))
 
 -- ---- fields that can be written
 
@@ -198,35 +177,35 @@ in_turn_all w (f ∷ fs) =
 
 -- the tokens of the first field and of the remaining fields are the tokens of all fields
 pub in_turn_spelled : (w : List ℕ) (fs rest : List ProducedTy) → rest ≡ fields_behind w fs
-    → flat_map spell_produced_field (field_of_word w fs) ++ flat_map spell_produced_field rest
-    ≡ flat_map spell_produced_field fs
+    → flat_map field_form.spell (field_of_word w fs) ++ flat_map field_form.spell rest
+    ≡ flat_map field_form.spell fs
 in_turn_spelled w fs rest e =
-    sym (flat_map-append spell_produced_field (field_of_word w fs) rest)
-    ∙ ap (λ (gs : List ProducedTy). flat_map spell_produced_field gs)
+    sym (flat_map-append field_form.spell (field_of_word w fs) rest)
+    ∙ ap (λ (gs : List ProducedTy). flat_map field_form.spell gs)
     (ap (λ (gs : List ProducedTy). field_of_word w fs ++ gs) e ∙ in_turn_all w fs)
 
 -- the entries of the first field if the field has the word, or no entries
 abbrev Entries : List ℕ → List ProducedTy → Type 0
 Entries w fs =
-    (xs : List Versioned) × (field_of_word w fs ≡ with_entries w xs) × (each printable_versioned xs
-    ≡ true)
+    (xs : List Versioned) × (field_of_word w fs ≡ with_entries w xs)
+    × (each versioned_form.printable xs ≡ true)
 
 filled : (w : List ℕ) (xs : List Versioned)
-    → not (no_items xs) && each printable_versioned xs ≡ true
+    → not (no_items xs) && each versioned_form.printable xs ≡ true
     → (w, xs) ∷ [] ≡ with_entries w xs
 filled w [] h = absurd cc
 filled w (x ∷ xs) h = refl
 
 entries_there : (w : List ℕ) (fs : List ProducedTy)
-    → each printable_produced_field (field_of_word w fs) ≡ true → Entries w fs
+    → each field_form.printable (field_of_word w fs) ≡ true → Entries w fs
 entries_there w [] h = ([], refl, refl)
 entries_there w (f ∷ fs) h =
     by_test (bytes_eq f.0 w)
     (λ e. (let k = (bytes_decides f.0 w).0 e in
-    let g = (and_parts (printable_produced_field f) true (rw e at h)).0 in (
+    let g = (and_parts (field_form.printable f) true (rw e at h)).0 in (
       f.1,
       rw e (filled f.0 f.1 g ∙ ap (λ (v : List ℕ). with_entries v f.1) k),
-      (and_parts (not (no_items f.1)) (each printable_versioned f.1) g).1,
+      (and_parts (not (no_items f.1)) (each versioned_form.printable f.1) g).1,
     )))
     (λ e. ([], rw e refl, refl))
 
@@ -246,9 +225,9 @@ record Threes (fs : List ProducedTy) : Type 0 where
   sdks : List Versioned
   processors : List Versioned
   are : fs ≡ three_fields languages sdks processors
-  printable_languages : each printable_versioned languages ≡ true
-  printable_sdks : each printable_versioned sdks ≡ true
-  printable_processors : each printable_versioned processors ≡ true
+  printable_languages : each versioned_form.printable languages ≡ true
+  printable_sdks : each versioned_form.printable sdks ≡ true
+  printable_processors : each versioned_form.printable processors ≡ true
 
 threes : (fs : List ProducedTy) → printable_producers fs ≡ true → Threes fs
 threes fs h =
@@ -257,14 +236,14 @@ threes fs h =
     let p = codes "processed-by" in
     let gs = fields_behind l fs in
     let hs = fields_behind s gs in
-    let a = and_parts (each printable_produced_field (field_of_word l fs))
+    let a = and_parts (each field_form.printable (field_of_word l fs))
     (printable_in_turn (s ∷ p ∷ []) gs) h
     in
-    let b = and_parts (each printable_produced_field (field_of_word s gs))
+    let b = and_parts (each field_form.printable (field_of_word s gs))
     (printable_in_turn (p ∷ []) hs) a.1
     in
     let c =
-    and_parts (each printable_produced_field (field_of_word p hs)) (no_items (fields_behind p hs))
+    and_parts (each field_form.printable (field_of_word p hs)) (no_items (fields_behind p hs))
     b.1 in
     let x = entries_there l fs a.0 in
     let y = entries_there s gs b.0 in
@@ -281,90 +260,46 @@ threes fs h =
       printable_processors = z.2;
     }
 
-three_here : (fs : List ProducedTy) (t : Threes fs) (r : List Tok) → more r ≡ false
-    → producer_entries.spells (three t.languages t.sdks t.processors)
-    (three_spelled t.languages t.sdks t.processors) r
-unfolding producer_entries
-three_here fs t r e =
-    let ys = entries_of sdk t.sdks in
-    let zs = entries_of processor t.processors in
-    let b = flat_map (spell_produced (codes "sdk")) t.sdks in
-    let c = flat_map (spell_produced (codes "processed-by")) t.processors in
-    entries_here language language_read t.languages (ys ++ (zs ++ [])) (b ++ (c ++ [])) r
-    t.printable_languages (entries_here sdk sdk_read t.sdks (zs ++ []) (c ++ []) r t.printable_sdks
-    (entries_here processor processor_read t.processors [] [] r t.printable_processors (refl, e)))
+ready_with : (k : ProducerField) (xs : List Versioned) (es : List ProducerTy)
+    → each versioned_form.printable xs ≡ true → entries_form.ready es ≡ true
+    → entries_form.ready (entries_of k xs ++ es) ≡ true
+ready_with k [] es h i = i
+ready_with k (x ∷ xs) es h i =
+    let a = and_parts (versioned_form.printable x) (each versioned_form.printable xs) h in
+    rw (a.0) (ready_with k xs es a.1 i)
 
--- at the end of its group
-pub producers_here : (fs : List ProducedTy) (r : List Tok) → printable_producers fs ≡ true
-    → more r ≡ false → producers.spells fs (spell_producers fs) r
-unfolding producers
-producers_here fs r f e =
-    let t = threes fs f in
-    let es = three t.languages t.sdks t.processors in
-    let same = ap (λ (gs : List ProducedTy). flat_map spell_produced_field gs) t.are
-    ∙ spelled_are t.languages t.sdks t.processors in
-    annotated_here (codes "producers") (made fields_of producer_entries) fs
-    (flat_map spell_produced_field fs) r refl (
-      es,
-      subst (λ (c : List Tok). producer_entries.spells es c r) (sym same) (three_here fs t r e),
-      refl,
-      three_are t.languages t.sdks t.processors ∙ sym t.are,
+-- entries that are the fields
+as_entries : (fs : List ProducedTy) → printable_producers fs ≡ true
+    → (es : List ProducerTy) × (entries_form.spell es ≡ fields_form.spell fs)
+    × (entries_form.ready es ≡ true) × (fields_of es ≡ fs)
+as_entries fs h =
+    let t = threes fs h in
+    let xs = t.languages in
+    let ys = t.sdks in
+    let zs = t.processors in (
+      three xs ys zs,
+      spelled_are xs ys zs
+          ∙ ap (λ (gs : List ProducedTy). flat_map field_form.spell gs) (sym t.are),
+      ready_with language xs _ t.printable_languages (ready_with sdk ys _ t.printable_sdks
+          (ready_with processor zs [] t.printable_processors refl)),
+      three_are xs ys zs ∙ sym t.are,
     )
-
--- ---- printable sections are well-formed
-
-produced_well_formed : (w : List ℕ) → is_keyword w ≡ true → (x : Versioned)
-    → printable_versioned x ≡ true
-    → WellFormed (spell_produced w x)
-produced_well_formed w k x f =
-    let a = and_parts (is_utf8 x.0) (is_utf8 x.1) f in
-    well_formed_group w (spell_string x.0 ++ spell_string x.1) k
-    (well_formed_both (spell_string x.0) (spell_string x.1) (text_well_formed x.0 a.0)
-    (text_well_formed x.1 a.1))
-
-entries_well_formed : (w : List ℕ) → is_keyword w ≡ true → (xs : List Versioned) (d : List Tok)
-    → each printable_versioned xs ≡ true → WellFormed d
-    → WellFormed (flat_map (spell_produced w) xs ++ d)
-entries_well_formed w k xs d f n =
-    well_formed_both (flat_map (spell_produced w) xs) d
-    (well_formed_each (spell_produced w) printable_versioned (produced_well_formed w k) xs f) n
-
-pub producers_well_formed : (fs : List ProducedTy) → printable_producers fs ≡ true
-    → WellFormed (in_parens (spell_producers fs))
-producers_well_formed fs f =
-    let t = threes fs f in
-    let b = flat_map (spell_produced (codes "sdk")) t.sdks in
-    let c = flat_map (spell_produced (codes "processed-by")) t.processors in
-    let same = ap (λ (gs : List ProducedTy). flat_map spell_produced_field gs) t.are
-    ∙ spelled_are t.languages t.sdks t.processors in
-    well_formed_annotated (codes "producers") (flat_map spell_produced_field fs)
-    producers_annotation refl
-    (subst (λ (d : List Tok). WellFormed d) (sym same)
-    (entries_well_formed (codes "language") refl t.languages (b ++ (c ++ [])) t.printable_languages
-    (entries_well_formed (codes "sdk") refl t.sdks (c ++ []) t.printable_sdks
-    (entries_well_formed (codes "processed-by") refl t.processors []
-    t.printable_processors nothing))))
 
 -- ---- each value that a text spells can be written
 
-entry_only : OnlyPrintable producer_entry (λ e. printable_versioned e.1)
-unfolding producer_entry
-entry_only =
-    only_paren (only_weaker (λ e. printable_versioned e.1) (λ v h. h)
-    (only_seq (only_any field_word) (only_seq text_only text_only)))
-
 field_printable : (k : ProducerField) (es : List ProducerTy)
-    → each (λ e. printable_versioned e.1) es ≡ true
-    → each printable_versioned (field_entries k es) ≡ true
+    → each (λ e. versioned_form.printable e.1) es ≡ true
+    → each versioned_form.printable (field_entries k es) ≡ true
 field_printable k [] h = refl
 field_printable k (e ∷ es) h =
-    let a = and_parts (printable_versioned e.1) (each (λ e. printable_versioned e.1) es) h in
+    let a = and_parts (versioned_form.printable e.1) (each (λ e. versioned_form.printable e.1) es) h
+    in
     by_test (same_field e.0 k) (λ s. (rw (s, a.0) (field_printable k es a.1)))
     (λ s. (rw s (field_printable k es a.1)))
 
-turn_printable : (xs ys zs : List Versioned) → each printable_versioned xs ≡ true
-    → each printable_versioned ys ≡ true
-    → each printable_versioned zs ≡ true
+turn_printable : (xs ys zs : List Versioned) → each versioned_form.printable xs ≡ true
+    → each versioned_form.printable ys ≡ true
+    → each versioned_form.printable zs ≡ true
     → printable_producers ((with_entries (codes "language") xs ++ with_entries (codes "sdk") ys)
     ++ with_entries (codes "processed-by") zs) ≡ true
 turn_printable [] [] [] a b c = refl
@@ -376,18 +311,44 @@ turn_printable (x ∷ xs) [] (z ∷ zs) a b c = rw (a, c) refl
 turn_printable (x ∷ xs) (y ∷ ys) [] a b c = rw (a, b) refl
 turn_printable (x ∷ xs) (y ∷ ys) (z ∷ zs) a b c = rw (a, b, c) refl
 
-fields_printable : (es : List ProducerTy) → each (λ e. printable_versioned e.1) es ≡ true
+fields_printable : (es : List ProducerTy) → each (λ e. versioned_form.printable e.1) es ≡ true
     → printable_producers (fields_of es) ≡ true
 fields_printable es h =
     turn_printable (field_entries language es) (field_entries sdk es) (field_entries processor es)
     (field_printable language es h) (field_printable sdk es h) (field_printable processor es h)
 
-pub producers_only : OnlyPrintable producers printable_producers
-unfolding producers producer_entries
-producers_only =
-    only_annotated (codes "producers") (only_made (λ _. true) fields_of printable_producers
-    (only_weaker (λ es. printable_producers (fields_of es)) fields_printable
-    (only_many more producer_entry_consumes entry_only)))
+-- ---- the section
+
+fields_prints : Prints fields_form (made fields_of producer_entries)
+fields_prints =
+    let q = made_prints entries_prints fields_of in
+    record {
+      nests = λ fs h. (let x = as_entries fs h in
+          subst (λ (c : List Tok). WellFormed c) x.1 (q.nests x.0 x.2));
+      front = λ rest test f fs r h i e. (let x = as_entries fs h in
+          subst (λ (c : List Tok). test (c ++ r) ≡ true) x.1
+          (q.front any test (λ k y j. f (Keyword (word_of k) ∷ y)) x.0 r x.2 refl e));
+      here = λ fs r h e. (let x = as_entries fs h in
+          subst (λ (gs : List ProducedTy). (made fields_of producer_entries).spells gs
+          (fields_form.spell fs) r) x.3
+          (subst
+          (λ (c : List Tok). (made fields_of producer_entries).spells (fields_of x.0) c r) x.1
+          (q.here x.0 r x.2 e)));
+      only = λ fs c r a s. (let x = q.only fs c r a s in (
+        fs,
+        refl,
+        subst (λ (gs : List ProducedTy). printable_producers gs ≡ true) x.1
+            (fields_printable x.0 x.2),
+      ));
+    }
+
+pub producers_reads : Annotates producers_form producers
+unfolding producers
+producers_reads =
+    annotates fields_prints refl (codes "producers") producers_annotation refl refl
+
+pub producers_prints : Prints (paren_form producers_form) (paren producers)
+producers_prints = annotation_prints producers_reads refl
 
 -- ---- the three words in turn
 
@@ -395,21 +356,21 @@ producers_only =
 module _ (fs gs hs ks : List ProducedTy) (a : gs ≡ fields_behind (codes "language") fs)
     (b : hs ≡ fields_behind (codes "sdk") gs) (c : ks ≡ fields_behind (codes "processed-by") hs)
   where
-    pub turns_printable : each printable_produced_field (field_of_word (codes "language") fs) ≡ true
-        → each printable_produced_field (field_of_word (codes "sdk") gs) ≡ true
-        → each printable_produced_field (field_of_word (codes "processed-by") hs) ≡ true
+    pub turns_printable : each field_form.printable (field_of_word (codes "language") fs) ≡ true
+        → each field_form.printable (field_of_word (codes "sdk") gs) ≡ true
+        → each field_form.printable (field_of_word (codes "processed-by") hs) ≡ true
         → printable_producers fs ≡ no_items ks
     turns_printable x y z = rw (x, ← a, y, ← b, z, ← c) refl
 
     pub turns_spelled : no_items ks ≡ true
-        → flat_map spell_produced_field (field_of_word (codes "language") fs)
-        ++ (flat_map spell_produced_field (field_of_word (codes "sdk") gs)
-        ++ flat_map spell_produced_field (field_of_word (codes "processed-by") hs))
-        ≡ flat_map spell_produced_field fs
+        → flat_map field_form.spell (field_of_word (codes "language") fs)
+        ++ (flat_map field_form.spell (field_of_word (codes "sdk") gs)
+        ++ flat_map field_form.spell (field_of_word (codes "processed-by") hs))
+        ≡ flat_map field_form.spell fs
     turns_spelled n =
-        let l = flat_map spell_produced_field (field_of_word (codes "language") fs) in
-        let s = flat_map spell_produced_field (field_of_word (codes "sdk") gs) in
-        let p = flat_map spell_produced_field (field_of_word (codes "processed-by") hs) in
+        let l = flat_map field_form.spell (field_of_word (codes "language") fs) in
+        let s = flat_map field_form.spell (field_of_word (codes "sdk") gs) in
+        let p = flat_map field_form.spell (field_of_word (codes "processed-by") hs) in
         ap (λ (q : List Tok). l ++ (s ++ q)) (sym (append-nil p)
         ∙ in_turn_spelled (codes "processed-by") hs [] (sym (no_fields ks n) ∙ c))
         ∙ ap (λ (q : List Tok). l ++ q) (in_turn_spelled (codes "sdk") gs hs b)

@@ -1,11 +1,12 @@
-use Rattle.std.proofs.Common.{take}
+use Rattle.std.proofs.Common.{drop}
+use Rattle.std.specs.Prelude.{map}
 use Rattle.wat_links.specs.Dylink.{dylink_import_view}
-use Rattle.wat_print_module.specs.Dylink.{spell_import_flags, printable_import_flags}
-use Rattle.wat_print.specs.Parts.{Wrote}
+use Rattle.wat_links.specs.Entries.{of_import}
+use Rattle.wat_print.specs.Prints.{Left}
+use Rattle.wat_print_module.specs.Dylink.{entry_form}
 use Rattle.wat_print_module.proofs.dylink.write_imports.Given as goal
 
 abbrev pub invariant-loop-entry : goal.invariant-loop-entry
 invariant-loop-entry l =
-    Wrote dylink_import_view spell_import_flags printable_import_flags
-    (take l.entry-index l.entries)
-    l.fn.out l.out
+    Left entry_form (map of_import (map dylink_import_view (drop l.entry-index l.entries)))
+    (map of_import (map dylink_import_view l.entries)) l.fn.out l.out

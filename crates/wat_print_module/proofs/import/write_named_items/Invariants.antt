@@ -1,10 +1,11 @@
-use Rattle.std.proofs.Common.{take}
-use Rattle.std.specs.Str.{is_utf8}
+use Rattle.std.proofs.Common.{drop}
+use Rattle.std.specs.Prelude.{map}
 use Rattle.wat_links.specs.Import.{named_view}
-use Rattle.wat_print_module.specs.Import.{spell_named}
-use Rattle.wat_print.specs.Parts.{Wrote}
+use Rattle.wat_print.specs.Prints.{Left}
+use Rattle.wat_print_module.specs.Import.{named_form}
 use Rattle.wat_print_module.proofs.import.write_named_items.Given as goal
 
 abbrev pub invariant-loop-item : goal.invariant-loop-item
 invariant-loop-item l =
-    Wrote named_view spell_named is_utf8 (take l.item-index l.items) l.fn.out l.out
+    Left named_form (map named_view (drop l.item-index l.items)) (map named_view l.items) l.fn.out
+    l.out

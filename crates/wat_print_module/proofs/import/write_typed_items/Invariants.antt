@@ -1,9 +1,11 @@
-use Rattle.std.proofs.Common.{take}
+use Rattle.std.proofs.Common.{drop}
+use Rattle.std.specs.Prelude.{map}
 use Rattle.wat_links.specs.Import.{typed_view}
-use Rattle.wat_print_module.specs.Import.{spell_typed, printable_typed}
-use Rattle.wat_print.specs.Parts.{Wrote}
+use Rattle.wat_print.specs.Prints.{Left}
+use Rattle.wat_print_module.specs.Import.{typed_form}
 use Rattle.wat_print_module.proofs.import.write_typed_items.Given as goal
 
 abbrev pub invariant-loop-item : goal.invariant-loop-item
 invariant-loop-item l =
-    Wrote typed_view spell_typed printable_typed (take l.item-index l.items) l.fn.out l.out
+    Left typed_form (map typed_view (drop l.item-index l.items)) (map typed_view l.items) l.fn.out
+    l.out

@@ -1,9 +1,10 @@
-use Rattle.std.proofs.Common.{take}
-use Rattle.wat_print_module.specs.Producers.{spell_produced, printable_versioned}
-use Rattle.wat_print.specs.Parts.{Wrote}
+use Rattle.std.proofs.Common.{drop}
+use Rattle.wat_links.specs.Producers.{names_view}
+use Rattle.wat_print.specs.Prints.{Left}
+use Rattle.wat_print_module.specs.Producers.{produced_form}
 use Rattle.wat_print_module.proofs.producers.write_entries.Given as goal
 
 abbrev pub invariant-loop-entry : goal.invariant-loop-entry
 invariant-loop-entry l =
-    Wrote (λ e. (e.0.now, e.1.now)) (spell_produced l.word) printable_versioned
-    (take l.entry-index l.entries) l.fn.out l.out
+    Left (produced_form l.word) (names_view (drop l.entry-index l.entries))
+    (names_view l.entries) l.fn.out l.out

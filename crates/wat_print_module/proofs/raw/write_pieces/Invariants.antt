@@ -1,8 +1,10 @@
-use Rattle.std.proofs.Common.{take}
-use Rattle.wat_print.specs.Strings.{spell_string, printable_string}
-use Rattle.wat_print.specs.Parts.{Wrote}
+use Rattle.std.proofs.Common.{drop}
+use Rattle.std.specs.Prelude.{map}
+use Rattle.wat_print.specs.Prints.{Left}
+use Rattle.wat_print_module.specs.Strings.{string_form}
 use Rattle.wat_print_module.proofs.raw.write_pieces.Given as goal
 
 abbrev pub invariant-loop-piece : goal.invariant-loop-piece
 invariant-loop-piece l =
-    Wrote (λ s. s.now) spell_string printable_string (take l.piece-index l.pieces) l.fn.out l.out
+    Left string_form (map (λ s. s.now) (drop l.piece-index l.pieces))
+    (map (λ s. s.now) l.pieces) l.fn.out l.out
