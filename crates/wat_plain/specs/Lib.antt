@@ -2,5 +2,12 @@ pub use Rattle.wat_mnemonics.specs.Word
 pub use Rattle.wat_instr.specs.Instruction
 pub use Rattle.wat_expr.specs.Expression
 pub use Rattle.wat_expr.specs.Items
+pub use Rattle.wat_expr.specs.Reading
+pub use Rattle.wat_tokens.specs.Error
+pub use Rattle.wat_tokens.specs.Production
+pub use Rattle.wat_tokens.specs.Tests
+pub use Rattle.wat_tokens.specs.Token
 pub mod Appends
+pub mod Found
+pub mod Parts
 pub mod Seen

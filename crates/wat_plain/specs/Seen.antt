@@ -6,6 +6,8 @@ use Rattle.wat_mnemonics.specs.declared.op.Op.TheVariants as ops
 use Rattle.wat_instr.specs.Instruction.{Instruction, Instr, instr_of, instruction_view}
 use Rattle.wat_instr.specs.Operand as operands
 use Rattle.wat_expr.specs.Items as items
+use Rattle.wat_plain.specs.declared.taking.Sort.{Sort}
+use Rattle.wat_plain.specs.declared.taking.Sort.TheVariants as sorts
 use Rattle.wat_plain.specs.declared.tree.Items.{Items}
 use Rattle.wat_plain.specs.declared.tree.Items.TheVariants as tree
 
@@ -27,3 +29,9 @@ seen (tree.Hinted' v p xs) = items.Hinted v (seen xs)
 -- `else` or `end` without a label
 abbrev pub label : LabelOp → Instr
 label op = instr_of (ops.Label op) (operands.label None)
+
+-- what the group of an instruction holds
+abbrev pub sort_seen : Sort → items.Sort
+sort_seen sorts.Block = items.IsBlock
+sort_seen sorts.If = items.IsIf
+sort_seen sorts.Other = items.IsOther

@@ -14,7 +14,7 @@ use wat_expr::BranchHint;
 use wat_tokens::{Error, Fault, Result, Span};
 
 /// Returns the sum of two indices, or Memory if there is none.
-fn later(index: usize, by: usize) -> Result<usize>
+pub fn later(index: usize, by: usize) -> Result<usize>
     ensures { OrMemory result (λ n. n ≡ index + by) }
 {
     match index.checked_add(by) {
