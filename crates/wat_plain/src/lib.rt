@@ -2,8 +2,6 @@
 //! programs. They are slow and recursive, and only tests use them.
 #![tactic(auto)]
 
-#[cfg(test)]
-mod examples;
 pub mod find;
 mod found;
 pub mod hinting;
