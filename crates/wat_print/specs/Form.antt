@@ -225,22 +225,6 @@ turn_form = record {
   Fronts = λ rest test. ((y : List Tok) → test (RParen ∷ LParen ∷ y) ≡ true);
 }
 
--- ---- a second part that depends on the first
-
--- p, then the form that q returns for the value of p. A rest must pass `ends`. `ends` must suffice
--- for each form that q returns. p must write at least one token.
-abbrev pub followed_form : {A : Type 0} {C : A → Type 0} → Test → Form A → ((a : A) → Form (C a))
-    → Form ((a : A) × C a)
-followed_form ends p q = record {
-  spell = λ v. p.spell v.0 ++ (q v.0).spell v.1;
-  printable = λ v. p.printable v.0 && (q v.0).printable v.1;
-  ready = λ v. p.ready v.0 && (q v.0).ready v.1;
-  follows = ends;
-  empty = false;
-  balanced = true;
-  Fronts = λ rest. p.Fronts any;
-}
-
 -- no tokens
 abbrev pub blank_form : Form (Unit {0})
 blank_form = record {

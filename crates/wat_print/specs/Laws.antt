@@ -1,5 +1,4 @@
 -- Laws of the definitions: lemmas that other crates use.
-pub mod Before
 pub mod Bytes
 pub mod Characters
 pub mod Cutting

@@ -13,7 +13,6 @@ pub use Rattle.wat_types.specs.Recursion
 pub use Rattle.wat_types.specs.StructType
 pub use Rattle.wat_types.specs.Tag
 pub use Rattle.wat_types.specs.Value
-pub mod Before
 pub mod Define
 pub mod Form
 pub mod Function

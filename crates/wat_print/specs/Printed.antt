@@ -16,7 +16,7 @@ use Rattle.wat_print.specs.declared.fault.Refused.{Refused}
 use Rattle.wat_print.specs.declared.fault.Refused.TheVariants.{Memory}
 use Rattle.wat_print.specs.declared.output.Layout.{Layout}
 use Rattle.wat_print.specs.declared.output.Layout.TheVariants.{Line, Indented}
-use Rattle.wat_print.specs.Laws.Only.{OnlyPrintable, only_any}
+use Rattle.wat_print.specs.Laws.Only.{OnlyPrintable}
 
 -- lines may be broken
 abbrev pub may_break : Layout → Bool
@@ -78,13 +78,6 @@ printing_at_end spell printable well_formed here only = record {
   spells = here;
   only = only.holds;
 }
-
--- the printing, if every value is printable
-abbrev pub printing_of_all : {A : Type 0} {g : Production A} (spell : A → List Tok)
-    → ((v : A) → WellFormed (spell v)) → ((v : A) (r : List Tok) → g.spells v (spell v) r)
-    → Printing g
-printing_of_all {g = g} spell well_formed here =
-    printing_of spell (λ _. true) (λ v h. well_formed v) (λ v h. here v) (only_any g)
 
 -- the printing of a form, if the empty rest is in `follows`
 abbrev pub printing_by : {A : Type 0} {g : Production A} (form : Form A) → Prints form g

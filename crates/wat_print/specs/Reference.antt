@@ -92,12 +92,12 @@ plain_word f32 = codes "f32"
 plain_word f64 = codes "f64"
 plain_word _ = codes "v128"
 
-abbrev pub plain_form : Form ValTy
-plain_form = token_form (λ t. Keyword (plain_word t)) is_plain (OfNamed plain_word)
+abbrev pub plain_type_form : Form ValTy
+plain_type_form = token_form (λ t. Keyword (plain_word t)) is_plain (OfNamed plain_word)
 
 abbrev pub val_parts : ValTy → ValTy ⊎ RefTy
 val_parts (ref r) = inr r
 val_parts t = inl t
 
 abbrev pub val_form : Form ValTy
-val_form = by val_parts (else_form (begins_one_of (word_in plain_words)) plain_form ref_form)
+val_form = by val_parts (else_form (begins_one_of (word_in plain_words)) plain_type_form ref_form)

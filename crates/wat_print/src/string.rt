@@ -3,7 +3,7 @@
 ghost use Rattle.std.specs.Prelude.{◌≡◌, List, ℕ, OnOk, true, IfErr};
 ghost use Rattle.wat_tokens.specs.Strings.{string, text};
 ghost use Rattle.wat_print.specs.Printings.{string_printing, text_printing};
-ghost use Rattle.wat_print.specs.Strings.{spell_string, printable_string};
+ghost use Rattle.wat_print.specs.Strings.{printable_string, string_form};
 ghost use Rattle.wat_print.specs.Text.{put};
 ghost use Rattle.wat_print.specs.declared.fault.Refused.TheVariants.{Memory};
 
@@ -13,7 +13,7 @@ use crate::traits::Print;
 
 /// Writes a string of bytes (Text Format, "Strings").
 pub fn write_string(out: &mut Output, content: &[u8]) -> Result<(), Refused>
-    ensures written { OnOk result (out.new ≡ put out.old (spell_string content.now)) }
+    ensures written { OnOk result (out.new ≡ put out.old (string_form.spell content.now)) }
     ensures printable { printable_string content.now ≡ true }
     ensures refused { IfErr result (λ e. e ≡ Memory) }
 {

@@ -35,3 +35,33 @@ puts_grouped w ts a b c d e f g k h =
 pub puts_broken : (n : ℕ) (ts : List Tok) (a b c : Page) → b ≡ broken n a → Writes ts b c
     → Writes ts a c
 puts_broken n ts a b c e w = puts_both [] ts a b c (puts_line n a b e) w
+
+-- a line break, a word and tokens in parentheses
+pub puts_line_grouped : (w : List ℕ) (ts : List Tok) (z a b c d e : Page)
+    → (n : ℕ) × (a ≡ broken n z) → b ≡ put a (LParen ∷ []) → c ≡ put b (Keyword w ∷ [])
+    → Writes ts c d → e ≡ put d (RParen ∷ []) → Writes (grouped w ts) z e
+puts_line_grouped w ts z a b c d e l f g k h =
+    puts_broken l.0 (grouped w ts) z a e l.1 (puts_grouped w ts a b c d e f g k h)
+
+-- a token, and then the tokens us
+pub puts_word : (t : Tok) (us : List Tok) (a b c : Page) → b ≡ put a (t ∷ []) → Writes us b c
+    → Writes (t ∷ us) a c
+puts_word t us a b c e w = puts_first (t ∷ []) us a b c e w
+
+-- tokens that begin with a word, in parentheses
+pub puts_worded : (w : List ℕ) (ts : List Tok) (a b c d : Page) → b ≡ put a (LParen ∷ [])
+    → Writes (Keyword w ∷ ts) b c → d ≡ put c (RParen ∷ []) → Writes (grouped w ts) a d
+puts_worded w ts a b c d e k f = puts_parens (Keyword w ∷ ts) a b c d e k f
+
+-- what calls write, one after the other and in groups
+pub ruleset on_lines = (
+  puts_put,
+  puts_word,
+  puts_first,
+  puts_last,
+  puts_both,
+  puts_parens,
+  puts_worded,
+  puts_grouped,
+  puts_line_grouped,
+)

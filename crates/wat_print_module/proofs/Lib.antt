@@ -1,5 +1,4 @@
 pub mod Grouped
-mod OnLines
 mod Produced
 mod Single
 mod Unprintable

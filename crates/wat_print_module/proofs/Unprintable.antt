@@ -4,7 +4,7 @@ use Rattle.std.specs.Prelude.{Some, None, slice_get}
 use Rattle.std.proofs.Common.{refl, ap, subst, sym, ◌∙◌, get_or, arith}
 use Rattle.wat_core.specs.Field.{ModuleField, field_view}
 use Rattle.wat_core.specs.Module.{ModuleTy}
-use Rattle.wat_print_module.specs.Field.{printable_module_field}
+use Rattle.wat_print_module.specs.Field.{field_form}
 use Rattle.wat_print_module.specs.Module.{fields_of_kind, UnprintableField, UnprintablePart}
 
 get_seen : {X A : Type 0} (view : X → A) (xs : List X) (i : ℕ) (d : X) → i < length xs
@@ -15,7 +15,7 @@ get_seen view (x ∷ xs) (suc i) d lt = get_seen view xs i d (omega arith)
 
 pub unprintable_at : (fs : List ModuleField) (i : ℕ) (x : ModuleField) (o : Option ℕ)
     → i < length fs
-    → x ≡ get_or fs i x → o ≡ Some i → printable_module_field (field_view x) ≡ false
+    → x ≡ get_or fs i x → o ≡ Some i → field_form.printable (field_view x) ≡ false
     → UnprintableField (map field_view fs) o
 unprintable_at fs i x o lt s e f =
     subst (λ (p : Option ℕ). UnprintableField (map field_view fs) p) (sym e) (

@@ -7,7 +7,9 @@ use Rattle.wat_links.specs.Dylink.{runtime_path, target_arch, begins_export, beg
 use Rattle.wat_links.specs.Entries.{EntryTy, of_export, of_import, other, entries_in}
 use Rattle.wat_print.specs.Form.{Form, seq_form, by, by_where, else_form, filled_form, many_form}
 use Rattle.wat_print.specs.Form.{group_form}
-use Rattle.wat_print_module.specs.Strings.{text_form, is_u32, u32_form, annotation_form}
+use Rattle.wat_print.specs.Strings.{text_form}
+use Rattle.wat_print_instr.specs.Numbers.{is_unsigned, unsigned_form}
+use Rattle.wat_print_module.specs.Annotation.{annotation_form}
 
 -- ---- entries of exports and of imports
 
@@ -16,7 +18,7 @@ one_number n = n ∷ []
 
 -- all flags as one number
 abbrev pub flags_form : Form ℕ
-flags_form = by_where is_u32 one_number (many_form more u32_form)
+flags_form = by_where (is_unsigned 32) one_number (many_form more (unsigned_form 32))
 
 -- ( export-info name flags )
 abbrev pub export_form : Form (List ℕ × ℕ)
@@ -36,7 +38,8 @@ import_form =
 -- ( word size alignment )
 abbrev pub sizes_form : List ℕ → Form (ℕ × ℕ)
 sizes_form w =
-    by Some (filled_form (second (begins_word w)) (group_form w (seq_form u32_form u32_form)))
+    by Some (filled_form (second (begins_word w))
+    (group_form w (seq_form (unsigned_form 32) (unsigned_form 32))))
 
 -- name*
 abbrev pub texts_form : Form (List (List ℕ))

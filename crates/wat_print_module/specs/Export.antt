@@ -8,7 +8,7 @@ use Rattle.wat_print.specs.Form.{Form, seq_form, by, paren_form, after_form}
 use Rattle.wat_print.specs.Index.{index_form}
 use Rattle.wat_print.specs.Reference.{named_form}
 use Rattle.wat_print_module.specs.Item.{sig_form}
-use Rattle.wat_print_module.specs.Strings.{text_form}
+use Rattle.wat_print.specs.Strings.{text_form}
 
 abbrev pub export_kind_word : ExportKind → List ℕ
 export_kind_word code.Func = codes "func"

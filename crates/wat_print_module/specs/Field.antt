@@ -1,55 +1,96 @@
 -- How the fields of a module are written.
-use Rattle.std.specs.Prelude.{Bool, List, ◌∷◌, codes}
-use Rattle.wat_lexer.specs.Token.{Tok, Keyword}
+use Rattle.std.specs.Prelude.{List, codes, ◌⊎◌}
+use Rattle.std.proofs.Common.{inl, inr}
 use Rattle.wat_tokens.specs.Index.{Idx}
-use Rattle.wat_tokens.specs.Spelled.{in_parens}
+use Rattle.wat_tokens.specs.Tests.{begins_word}
+use Rattle.wat_types.specs.Define.{TypeTy}
+use Rattle.wat_links.specs.Custom.{CustomTy}
+use Rattle.wat_links.specs.Export.{ExportTy}
+use Rattle.wat_links.specs.Import.{ImportsTy}
+use Rattle.wat_fields.specs.Data.{DataTy}
+use Rattle.wat_fields.specs.Elem.{ElemTy}
+use Rattle.wat_fields.specs.Func.{FuncFieldTy}
+use Rattle.wat_fields.specs.Global.{GlobalFieldTy}
+use Rattle.wat_fields.specs.Memory.{MemoryTy}
+use Rattle.wat_fields.specs.Table.{TableFieldTy}
+use Rattle.wat_fields.specs.Tag.{TagTy}
 use Rattle.wat_core.specs.Field.{ModuleFieldTy, a_type, a_rec, an_import, a_func, a_table, a_memory}
 use Rattle.wat_core.specs.Field.{a_global, an_export, a_start, an_elem, a_data, a_tag, a_custom}
-use Rattle.wat_print.specs.Before.{spell_type, printable_type, spell_rec, printable_rec}
-use Rattle.wat_print.specs.Index.{spell_index, printable_index}
-use Rattle.wat_print_module.specs.Before.{spell_custom, printable_custom, spell_export}
-use Rattle.wat_print_module.specs.Before.{printable_export, spell_imports, printable_imports}
-use Rattle.wat_print_module.specs.Func.{spell_func, printable_func}
-use Rattle.wat_print_module.specs.Global.{spell_global_field, printable_global_field}
-use Rattle.wat_print_module.specs.Memory.{spell_memory, printable_memory}
-use Rattle.wat_print_module.specs.Segments.{spell_elem, printable_elem, spell_data, printable_data}
-use Rattle.wat_print_module.specs.Table.{spell_table, printable_table}
-use Rattle.wat_print_module.specs.Tag.{spell_tag, printable_tag}
+use Rattle.wat_print.specs.Define.{type_form, rec_form}
+use Rattle.wat_print.specs.Form.{Form, by, else_form, paren_form, after_form}
+use Rattle.wat_print.specs.Index.{index_form}
+use Rattle.wat_print_module.specs.Custom.{custom_form}
+use Rattle.wat_print_module.specs.Data.{data_form}
+use Rattle.wat_print_module.specs.Elem.{elem_form}
+use Rattle.wat_print_module.specs.Export.{export_form}
+use Rattle.wat_print_module.specs.Func.{func_form}
+use Rattle.wat_print_module.specs.Global.{global_field_form}
+use Rattle.wat_print_module.specs.Import.{imports_form}
+use Rattle.wat_print_module.specs.Memory.{memory_field_form}
+use Rattle.wat_print_module.specs.Table.{table_field_form}
+use Rattle.wat_print_module.specs.Tag.{tag_form}
 
 -- start idx
-abbrev pub spell_start : Idx → List Tok
-spell_start i = Keyword (codes "start") ∷ spell_index i
+abbrev pub start_form : Form Idx
+start_form = after_form (codes "start") index_form
 
-abbrev pub spell_module_field : ModuleFieldTy → List Tok
-spell_module_field (a_type t) = spell_type t
-spell_module_field (a_rec ts) = spell_rec ts
-spell_module_field (an_import i) = spell_imports i
-spell_module_field (a_func f) = spell_func f
-spell_module_field (a_table t) = spell_table t
-spell_module_field (a_memory m) = spell_memory m
-spell_module_field (a_global g) = spell_global_field g
-spell_module_field (an_export e) = spell_export e
-spell_module_field (a_start i) = spell_start i
-spell_module_field (an_elem e) = spell_elem e
-spell_module_field (a_data d) = spell_data d
-spell_module_field (a_tag t) = spell_tag t
-spell_module_field (a_custom c) = spell_custom c
+-- ---- the kinds of fields, in the order in which the grammar asks for their first word
 
-abbrev pub printable_module_field : ModuleFieldTy → Bool
-printable_module_field (a_type t) = printable_type t
-printable_module_field (a_rec ts) = printable_rec ts
-printable_module_field (an_import i) = printable_imports i
-printable_module_field (a_func f) = printable_func f
-printable_module_field (a_table t) = printable_table t
-printable_module_field (a_memory m) = printable_memory m
-printable_module_field (a_global g) = printable_global_field g
-printable_module_field (an_export e) = printable_export e
-printable_module_field (a_start i) = printable_index i
-printable_module_field (an_elem e) = printable_elem e
-printable_module_field (a_data d) = printable_data d
-printable_module_field (a_tag t) = printable_tag t
-printable_module_field (a_custom c) = printable_custom c
+abbrev pub LateTree : Type 0
+LateTree = Idx ⊎ (ElemTy ⊎ (DataTy ⊎ CustomTy))
+
+abbrev pub MiddleTree : Type 0
+MiddleTree = GlobalFieldTy ⊎ (ExportTy ⊎ (TagTy ⊎ LateTree))
+
+abbrev pub EarlyTree : Type 0
+EarlyTree = FuncFieldTy ⊎ (TableFieldTy ⊎ (MemoryTy ⊎ MiddleTree))
+
+abbrev pub FieldTree : Type 0
+FieldTree = TypeTy ⊎ (List TypeTy ⊎ (ImportsTy ⊎ EarlyTree))
+
+abbrev pub late_form : Form LateTree
+late_form =
+    else_form (begins_word (codes "start")) start_form
+    (else_form (begins_word (codes "elem")) elem_form
+    (else_form (begins_word (codes "data")) data_form custom_form))
+
+abbrev pub middle_form : Form MiddleTree
+middle_form =
+    else_form (begins_word (codes "global")) global_field_form
+    (else_form (begins_word (codes "export")) export_form
+    (else_form (begins_word (codes "tag")) tag_form late_form))
+
+abbrev pub early_form : Form EarlyTree
+early_form =
+    else_form (begins_word (codes "func")) func_form
+    (else_form (begins_word (codes "table")) table_field_form
+    (else_form (begins_word (codes "memory")) memory_field_form middle_form))
+
+abbrev pub kinds_form : Form FieldTree
+kinds_form =
+    else_form (begins_word (codes "type")) type_form
+    (else_form (begins_word (codes "rec")) rec_form
+    (else_form (begins_word (codes "import")) imports_form early_form))
+
+abbrev pub field_parts : ModuleFieldTy → FieldTree
+field_parts (a_type t) = inl t
+field_parts (a_rec ts) = inr (inl ts)
+field_parts (an_import i) = inr (inr (inl i))
+field_parts (a_func f) = inr (inr (inr (inl f)))
+field_parts (a_table t) = inr (inr (inr (inr (inl t))))
+field_parts (a_memory m) = inr (inr (inr (inr (inr (inl m)))))
+field_parts (a_global g) = inr (inr (inr (inr (inr (inr (inl g))))))
+field_parts (an_export e) = inr (inr (inr (inr (inr (inr (inr (inl e)))))))
+field_parts (a_tag t) = inr (inr (inr (inr (inr (inr (inr (inr (inl t))))))))
+field_parts (a_start i) = inr (inr (inr (inr (inr (inr (inr (inr (inr (inl i)))))))))
+field_parts (an_elem e) = inr (inr (inr (inr (inr (inr (inr (inr (inr (inr (inl e))))))))))
+field_parts (a_data d) = inr (inr (inr (inr (inr (inr (inr (inr (inr (inr (inr (inl d)))))))))))
+field_parts (a_custom c) = inr (inr (inr (inr (inr (inr (inr (inr (inr (inr (inr (inr c)))))))))))
+
+-- a field without its parentheses
+abbrev pub content_form : Form ModuleFieldTy
+content_form = by field_parts kinds_form
 
 -- ( ModuleField )
-abbrev pub spell_field_group : ModuleFieldTy → List Tok
-spell_field_group f = in_parens (spell_module_field f)
+abbrev pub field_form : Form ModuleFieldTy
+field_form = paren_form content_form

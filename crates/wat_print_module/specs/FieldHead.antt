@@ -1,38 +1,34 @@
 -- How inline exports, inline imports and the heads of fields are written.
-use Rattle.std.specs.Prelude.{ℕ, Bool, ◌&&◌, List, [], ◌∷◌, ◌++◌, codes, flat_map}
-use Rattle.std.specs.Str.{is_utf8}
-use Rattle.wat_lexer.specs.Token.{Tok, String}
+use Rattle.std.specs.Prelude.{◌≡◌, ℕ, true, List, ◌∷◌, codes}
+use Rattle.wat_lexer.specs.Token.{Tok, LParen, RParen, Keyword, String}
+use Rattle.wat_types.specs.Label.{Label}
+use Rattle.wat_links.specs.Export.{begins_inline_export}
 use Rattle.wat_links.specs.FieldHead.{FieldHeadTy}
-use Rattle.wat_print.specs.Before.{spell_label, printable_label}
-use Rattle.wat_print.specs.Parts.{grouped, each}
-
--- ---- inline exports
+use Rattle.wat_print.specs.Form.{Form, seq_form, by, many_form, group_form}
+use Rattle.wat_print.specs.Label.{label_form}
+use Rattle.wat_print.specs.Strings.{text_form}
 
 -- ( export name )
-abbrev pub spell_inline_name : List ℕ → List Tok
-spell_inline_name n = grouped (codes "export") (String n ∷ [])
+abbrev pub inline_name_form : Form (List ℕ)
+inline_name_form = record (group_form (codes "export") text_form) {
+  Fronts = λ rest test. ((n : List ℕ) (y : List Tok)
+      → test (LParen ∷ Keyword (codes "export") ∷ String n ∷ RParen ∷ y) ≡ true);
+}
 
 -- ( export name )*
-abbrev pub spell_inline_export : List (List ℕ) → List Tok
-spell_inline_export ns = flat_map spell_inline_name ns
-
-abbrev pub printable_inline_export : List (List ℕ) → Bool
-printable_inline_export ns = each is_utf8 ns
-
--- ---- inline imports
+abbrev pub inline_export_form : Form (List (List ℕ))
+inline_export_form = many_form begins_inline_export inline_name_form
 
 -- ( import name name )
-abbrev pub spell_inline_import : List ℕ × List ℕ → List Tok
-spell_inline_import i = grouped (codes "import") (String i.0 ∷ String i.1 ∷ [])
+abbrev pub inline_import_form : Form (List ℕ × List ℕ)
+inline_import_form = record (group_form (codes "import") (seq_form text_form text_form)) {
+  Fronts = λ rest test. ((m n : List ℕ) (y : List Tok)
+      → test (LParen ∷ Keyword (codes "import") ∷ String m ∷ String n ∷ RParen ∷ y) ≡ true);
+}
 
-abbrev pub printable_inline_import : List ℕ × List ℕ → Bool
-printable_inline_import i = is_utf8 i.0 && is_utf8 i.1
-
--- ---- heads
+abbrev pub head_parts : FieldHeadTy → Label × List (List ℕ)
+head_parts h = (h.label, h.exports)
 
 -- id? name? InlineExport
-abbrev pub spell_head : FieldHeadTy → List Tok
-spell_head h = spell_label h.label ++ spell_inline_export h.exports
-
-abbrev pub printable_head : FieldHeadTy → Bool
-printable_head h = printable_label h.label && printable_inline_export h.exports
+abbrev pub head_form : Form FieldHeadTy
+head_form = by head_parts (seq_form label_form inline_export_form)

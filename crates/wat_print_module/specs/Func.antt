@@ -1,33 +1,47 @@
 -- How functions are written.
-use Rattle.std.specs.Prelude.{Bool, true, false, ◌&&◌, List, ◌∷◌, ◌++◌, codes}
-use Rattle.wat_lexer.specs.Token.{Tok, Keyword}
-use Rattle.wat_fields.specs.Func.{FuncKindTy, imported, inline, FuncUse, DefinedFunc, FuncFieldTy}
-use Rattle.wat_print.specs.Before.{spell_use, printable_use}
-use Rattle.wat_print.specs.Parts.{grouped}
-use Rattle.wat_print_instr.specs.ExpressionForm.{spell_expression, printable_expression}
-use Rattle.wat_print_module.specs.FieldHead.{spell_inline_import, printable_inline_import}
-use Rattle.wat_print_module.specs.FieldHead.{spell_head, printable_head}
-use Rattle.wat_print_module.specs.Local.{spell_locals, printable_locals}
+use Rattle.std.specs.Prelude.{ℕ, Bool, List, codes, ◌⊎◌}
+use Rattle.std.proofs.Common.{inl, inr}
+use Rattle.wat_links.specs.FieldHead.{FieldHeadTy}
+use Rattle.wat_links.specs.Import.{begins_inline_import}
+use Rattle.wat_expr.specs.Expression.{Expr}
+use Rattle.wat_fields.specs.Func.{imported, inline, FuncUse, DefinedFunc, FuncFieldTy}
+use Rattle.wat_fields.specs.Local.{LocalTy}
+use Rattle.wat_print.specs.Form.{any, Form, seq_form, by, else_form, after_form}
+use Rattle.wat_print.specs.Use.{use_form}
+use Rattle.wat_print_instr.specs.Form.{next_form}
+use Rattle.wat_print_module.specs.Expression.{ends_expression, expression_form}
+use Rattle.wat_print_module.specs.FieldHead.{inline_import_form, head_form}
+use Rattle.wat_print_module.specs.Item.{exact_form}
+use Rattle.wat_print_module.specs.Local.{locals_form}
 
--- a type use; in parentheses after `exact` if the type is exact
-abbrev pub spell_exact_use : FuncUse → Bool → List Tok
-spell_exact_use u true = grouped (codes "exact") (spell_use u)
-spell_exact_use u false = spell_use u
+-- ( local .. )* Expression
+-- A group of locals tells its first tokens before any rest, so `Fronts` asks less than in
+-- `next_form`.
+abbrev pub body_form : Form (List LocalTy × Expr)
+body_form = record (next_form ends_expression locals_form expression_form) {
+  Fronts = λ rest test. locals_form.Fronts any test × expression_form.Fronts rest test;
+}
 
--- an import and the type, or the type, the locals and the body
-abbrev pub spell_defined_func : DefinedFunc → List Tok
-spell_defined_func (u, imported i exact) = spell_inline_import i ++ spell_exact_use u exact
-spell_defined_func (u, inline ls e) = spell_use u ++ (spell_locals ls ++ spell_expression e)
+-- TypeUse ( local .. )* Expression
+abbrev pub inline_func_form : Form (FuncUse × (List LocalTy × Expr))
+inline_func_form = next_form ends_expression use_form body_form
 
-abbrev pub printable_func_kind : FuncKindTy → Bool
-printable_func_kind (imported i exact) = printable_inline_import i
-printable_func_kind (inline ls e) = printable_locals ls && printable_expression e
+abbrev pub DefinedTree : Type 0
+DefinedTree = (List ℕ × List ℕ) × (FuncUse × Bool) ⊎ FuncUse × (List LocalTy × Expr)
 
-abbrev pub printable_defined_func : DefinedFunc → Bool
-printable_defined_func d = printable_use d.0 && printable_func_kind d.1
+abbrev pub defined_func_parts : DefinedFunc → DefinedTree
+defined_func_parts (u, imported i exact) = inl (i, (u, exact))
+defined_func_parts (u, inline ls e) = inr (u, (ls, e))
 
-abbrev pub spell_func : FuncFieldTy → List Tok
-spell_func f = Keyword (codes "func") ∷ (spell_head f.head ++ spell_defined_func (f.ty, f.kind))
+-- InlineImport, and a type use, exact or not | TypeUse ( local .. )* Expression
+abbrev pub defined_func_form : Form DefinedFunc
+defined_func_form =
+    by defined_func_parts (else_form begins_inline_import
+    (seq_form inline_import_form exact_form) inline_func_form)
 
-abbrev pub printable_func : FuncFieldTy → Bool
-printable_func f = printable_head f.head && printable_defined_func (f.ty, f.kind)
+abbrev pub func_parts : FuncFieldTy → FieldHeadTy × DefinedFunc
+func_parts f = (f.head, (f.ty, f.kind))
+
+-- func head, and the type and the definition of the function
+abbrev pub func_form : Form FuncFieldTy
+func_form = by func_parts (after_form (codes "func") (seq_form head_form defined_func_form))

@@ -1,27 +1,30 @@
 -- How globals are written.
-use Rattle.std.specs.Prelude.{Bool, ◌&&◌, List, ◌∷◌, ◌++◌, codes}
-use Rattle.wat_lexer.specs.Token.{Tok, Keyword}
-use Rattle.wat_fields.specs.Global.{GlobalKindTy, imported, inline, DefinedGlobal, GlobalFieldTy}
-use Rattle.wat_print.specs.Before.{spell_global, printable_global}
-use Rattle.wat_print_instr.specs.ExpressionForm.{spell_expression, printable_expression}
-use Rattle.wat_print_module.specs.FieldHead.{spell_inline_import, printable_inline_import}
-use Rattle.wat_print_module.specs.FieldHead.{spell_head, printable_head}
+use Rattle.std.specs.Prelude.{ℕ, List, codes, ◌⊎◌}
+use Rattle.std.proofs.Common.{inl, inr}
+use Rattle.wat_types.specs.Storage.{GlobalTy}
+use Rattle.wat_links.specs.FieldHead.{FieldHeadTy}
+use Rattle.wat_links.specs.Import.{begins_inline_import}
+use Rattle.wat_expr.specs.Expression.{Expr}
+use Rattle.wat_fields.specs.Global.{imported, inline, DefinedGlobal, GlobalFieldTy}
+use Rattle.wat_print.specs.Form.{Form, seq_form, by, else_form, after_form}
+use Rattle.wat_print.specs.Storage.{global_form}
+use Rattle.wat_print_module.specs.Expression.{expression_form}
+use Rattle.wat_print_module.specs.FieldHead.{inline_import_form, head_form}
 
--- an import and the type, or the type and the initial value
-abbrev pub spell_defined_global : DefinedGlobal → List Tok
-spell_defined_global (t, imported i) = spell_inline_import i ++ spell_global t
-spell_defined_global (t, inline e) = spell_global t ++ spell_expression e
+abbrev pub defined_global_parts : DefinedGlobal → (List ℕ × List ℕ) × GlobalTy ⊎ GlobalTy × Expr
+defined_global_parts (t, imported i) = inl (i, t)
+defined_global_parts (t, inline e) = inr (t, e)
 
-abbrev pub printable_global_kind : GlobalKindTy → Bool
-printable_global_kind (imported i) = printable_inline_import i
-printable_global_kind (inline e) = printable_expression e
+-- InlineImport GlobalType | GlobalType Expression
+abbrev pub defined_global_form : Form DefinedGlobal
+defined_global_form =
+    by defined_global_parts (else_form begins_inline_import
+    (seq_form inline_import_form global_form) (seq_form global_form expression_form))
 
-abbrev pub printable_defined_global : DefinedGlobal → Bool
-printable_defined_global d = printable_global d.0 && printable_global_kind d.1
+abbrev pub global_field_parts : GlobalFieldTy → FieldHeadTy × DefinedGlobal
+global_field_parts g = (g.head, (g.ty, g.kind))
 
-abbrev pub spell_global_field : GlobalFieldTy → List Tok
-spell_global_field g =
-    Keyword (codes "global") ∷ (spell_head g.head ++ spell_defined_global (g.ty, g.kind))
-
-abbrev pub printable_global_field : GlobalFieldTy → Bool
-printable_global_field g = printable_head g.head && printable_defined_global (g.ty, g.kind)
+-- global head, and the type and the definition of the global
+abbrev pub global_field_form : Form GlobalFieldTy
+global_field_form =
+    by global_field_parts (after_form (codes "global") (seq_form head_form defined_global_form))

@@ -7,7 +7,7 @@ use Rattle.wat_links.specs.Item.{SigTy}
 use Rattle.wat_print.specs.Form.{any, Form, seq_form, by, else_form, many_form, paren_form}
 use Rattle.wat_print.specs.Form.{after_form, group_form}
 use Rattle.wat_print_module.specs.Item.{printable_sig, sig_form}
-use Rattle.wat_print_module.specs.Strings.{text_form}
+use Rattle.wat_print.specs.Strings.{text_form}
 
 -- name ( ItemSig )
 abbrev pub single_form : Form (List ℕ × SigTy)

@@ -1,5 +1,4 @@
 -- Laws of the definitions: lemmas that other crates use.
-pub mod Before
 pub mod Body
 pub mod Custom
 pub mod Data
@@ -7,9 +6,11 @@ pub mod DataVal
 pub mod Dylink
 pub mod Elem
 pub mod Export
+pub mod Expression
 pub mod Field
 pub mod FieldHead
 pub mod Folded
+pub mod Forms
 pub mod Fronts
 pub mod Func
 pub mod Global
@@ -20,8 +21,6 @@ pub mod Memory
 pub mod Module
 pub mod CustomPlace
 pub mod Producers
-pub mod Strings
-pub mod Subsections
+pub mod Annotation
 pub mod Table
-pub mod TableOnly
 pub mod Tag

@@ -23,27 +23,25 @@ pub use Rattle.wat_links.specs.Item as LinksItem
 pub use Rattle.wat_links.specs.CustomPlace as LinksPlace
 pub use Rattle.wat_links.specs.Producers as LinksProducers
 pub use Rattle.wat_links.specs.Raw
-pub mod Before
 pub mod Custom
+pub mod Data
+pub mod DataVal
 pub mod Dylink
+pub mod Elem
 pub mod Export
+pub mod Expression
 pub mod Field
 pub mod FieldHead
-pub mod FieldPrintings
 pub mod Func
 pub mod Global
 pub mod Import
 pub mod Item
 pub mod Laws
-pub mod LinkPrintings
 pub mod Local
 pub mod Memory
 pub mod Module
-pub mod ModulePrintings
 pub mod CustomPlace
 pub mod Producers
-pub mod SegmentPrintings
-pub mod Segments
-pub mod Strings
+pub mod Annotation
 pub mod Table
 pub mod Tag

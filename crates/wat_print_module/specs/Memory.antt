@@ -1,30 +1,45 @@
 -- How memories are written.
-use Rattle.std.specs.Prelude.{Bool, ◌&&◌, List, ◌∷◌, ◌++◌, codes}
-use Rattle.wat_lexer.specs.Token.{Tok, Keyword}
+use Rattle.std.specs.Prelude.{ℕ, Bool, List, codes, Option, ◌⊎◌}
+use Rattle.std.proofs.Common.{inl, inr}
+use Rattle.wat_tokens.specs.Tests.{begins_lparen}
+use Rattle.wat_types.specs.declared.limits.MemoryType.{MemoryType}
+use Rattle.wat_links.specs.FieldHead.{FieldHeadTy}
+use Rattle.wat_links.specs.Import.{begins_inline_import}
+use Rattle.wat_fields.specs.DataVal.{DataValTy}
 use Rattle.wat_fields.specs.Memory.{MemoryKindTy, imported, normal, inline, MemoryTy}
-use Rattle.wat_print.specs.Before.{spell_page_size, spell_memory_type, printable_memory_type}
-use Rattle.wat_print.specs.Limits.{is_exponent}
-use Rattle.wat_print.specs.Parts.{grouped, spell_flag, spell_option, if_some, each}
-use Rattle.wat_print_module.specs.FieldHead.{spell_inline_import, printable_inline_import}
-use Rattle.wat_print_module.specs.FieldHead.{spell_head, printable_head}
-use Rattle.wat_print_module.specs.Segments.{spell_data_vals, printable_data_val}
+use Rattle.wat_fields.specs.Memory.{begins_inline_data}
+use Rattle.wat_print.specs.Form.{Form, seq_form, behind_form, by, else_form, after_form, group_form}
+use Rattle.wat_print.specs.Limits.{width_form, page_form, memory_form}
+use Rattle.wat_print_module.specs.DataVal.{data_vals_form}
+use Rattle.wat_print_module.specs.FieldHead.{inline_import_form, head_form}
 
--- InlineImport MemoryType | MemoryType | i64? pagesize? ( data DataVal* )
-abbrev pub spell_memory_kind : MemoryKindTy → List Tok
-spell_memory_kind (imported i t) = spell_inline_import i ++ spell_memory_type t
-spell_memory_kind (normal t) = spell_memory_type t
-spell_memory_kind (inline b p d) =
-    spell_flag (codes "i64") b
-    ++ (spell_option spell_page_size p ++ grouped (codes "data") (spell_data_vals d))
+-- ( data DataVal* )
+abbrev pub data_group_form : Form (List DataValTy)
+data_group_form = group_form (codes "data") data_vals_form
 
-abbrev pub printable_memory_kind : MemoryKindTy → Bool
-printable_memory_kind (imported i t) = printable_inline_import i && printable_memory_type t
-printable_memory_kind (normal t) = printable_memory_type t
-printable_memory_kind (inline b p d) = if_some is_exponent p && each printable_data_val d
+-- i64? pagesize? ( data DataVal* )
+abbrev pub inline_memory_form : Form (Bool × (Option ℕ × List DataValTy))
+inline_memory_form = behind_form begins_lparen width_form (seq_form page_form data_group_form)
+
+abbrev pub MemoryTree : Type 0
+MemoryTree =
+    (List ℕ × List ℕ) × MemoryType ⊎ (Bool × (Option ℕ × List DataValTy) ⊎ MemoryType)
+
+abbrev pub memory_kind_parts : MemoryKindTy → MemoryTree
+memory_kind_parts (imported i t) = inl (i, t)
+memory_kind_parts (inline b p d) = inr (inl (b, (p, d)))
+memory_kind_parts (normal t) = inr (inr t)
+
+-- InlineImport MemoryType | i64? pagesize? ( data DataVal* ) | MemoryType
+abbrev pub memory_kind_form : Form MemoryKindTy
+memory_kind_form =
+    by memory_kind_parts (else_form begins_inline_import (seq_form inline_import_form memory_form)
+    (else_form begins_inline_data inline_memory_form memory_form))
+
+abbrev pub memory_field_parts : MemoryTy → FieldHeadTy × MemoryKindTy
+memory_field_parts m = (m.head, m.kind)
 
 -- memory head kind
-abbrev pub spell_memory : MemoryTy → List Tok
-spell_memory m = Keyword (codes "memory") ∷ (spell_head m.head ++ spell_memory_kind m.kind)
-
-abbrev pub printable_memory : MemoryTy → Bool
-printable_memory m = printable_head m.head && printable_memory_kind m.kind
+abbrev pub memory_field_form : Form MemoryTy
+memory_field_form =
+    by memory_field_parts (after_form (codes "memory") (seq_form head_form memory_kind_form))

@@ -1,38 +1,46 @@
 -- How modules are written.
-use Rattle.std.specs.Prelude.{◌≡◌, ℕ, Bool, false, ◌&&◌, List, [], ◌∷◌, ◌++◌, codes, flat_map}
-use Rattle.std.specs.Prelude.{Option, Some, None, slice_get}
-use Rattle.wat_lexer.specs.Token.{Tok, Keyword}
-use Rattle.wat_tokens.specs.Spelled.{in_parens}
-use Rattle.wat_types.specs.Label.{label}
+use Rattle.std.specs.Prelude.{◌≡◌, ℕ, false, List, [], codes, Option, Some, None, slice_get, ◌⊎◌}
+use Rattle.std.proofs.Common.{inl, inr}
+use Rattle.wat_lexer.specs.Token.{Tok}
+use Rattle.wat_tokens.specs.Tests.{begins_word, more}
+use Rattle.wat_types.specs.Label.{Label, label}
 use Rattle.wat_core.specs.Field.{ModuleFieldTy}
 use Rattle.wat_core.specs.FieldGroup.{field_group}
 use Rattle.wat_core.specs.Module.{ModuleKindTy, text, binary, ModuleTy}
-use Rattle.wat_print.specs.Before.{spell_label, printable_label}
-use Rattle.wat_print.specs.Parts.{each}
+use Rattle.wat_print.specs.Form.{Form, seq_form, by, else_form, many_form, paren_form, after_form}
+use Rattle.wat_print.specs.Label.{label_form}
 use Rattle.wat_print.specs.Printed.{NoneSpells}
-use Rattle.wat_print_module.specs.Field.{printable_module_field, spell_field_group}
-use Rattle.wat_print.specs.Strings.{spell_string, printable_string}
+use Rattle.wat_print_module.specs.Custom.{pieces_form}
+use Rattle.wat_print_module.specs.Field.{field_form}
 
--- ( ModuleField )*, or `binary` bytes*
-abbrev pub spell_module_kind : ModuleKindTy → List Tok
-spell_module_kind (text fs) = flat_map spell_field_group fs
-spell_module_kind (binary ss) = Keyword (codes "binary") ∷ flat_map spell_string ss
+-- ( ModuleField )*
+abbrev pub fields_form : Form (List ModuleFieldTy)
+fields_form = many_form more field_form
 
-abbrev pub printable_module_kind : ModuleKindTy → Bool
-printable_module_kind (text fs) = each printable_module_field fs
-printable_module_kind (binary ss) = each printable_string ss
+-- binary bytes*
+abbrev pub binary_form : Form (List (List ℕ))
+binary_form = after_form (codes "binary") pieces_form
+
+abbrev pub kind_parts : ModuleKindTy → List (List ℕ) ⊎ List ModuleFieldTy
+kind_parts (binary ss) = inl ss
+kind_parts (text fs) = inr fs
+
+abbrev pub module_kind_form : Form ModuleKindTy
+module_kind_form = by kind_parts (else_form (begins_word (codes "binary")) binary_form fields_form)
+
+abbrev pub module_parts : ModuleTy → Label × ModuleKindTy
+module_parts m = (m.label, m.kind)
 
 -- module id? name? kind
-abbrev pub spell_module : ModuleTy → List Tok
-spell_module m =
-    Keyword (codes "module") ∷ (spell_label m.label ++ spell_module_kind m.kind)
-
-abbrev pub printable_module : ModuleTy → Bool
-printable_module m = printable_label m.label && printable_module_kind m.kind
+abbrev pub module_form : Form ModuleTy
+module_form = by module_parts (after_form (codes "module") (seq_form label_form module_kind_form))
 
 -- ( module .. )
+abbrev pub module_group_form : Form ModuleTy
+module_group_form = paren_form module_form
+
 abbrev pub spell_module_group : ModuleTy → List Tok
-spell_module_group m = in_parens (spell_module m)
+spell_module_group m = module_group_form.spell m
 
 -- ---- modules that are refused
 
@@ -43,13 +51,13 @@ fields_of_kind (binary ss) = []
 -- the field with the number exists, and can't be written
 abbrev pub UnprintableField : List ModuleFieldTy → Option ℕ → Type 0
 UnprintableField fs (Some i) =
-    (f : ModuleFieldTy) × (slice_get fs i ≡ Some f) × (printable_module_field f ≡ false)
+    (f : ModuleFieldTy) × (slice_get fs i ≡ Some f) × (field_form.printable f ≡ false)
 UnprintableField fs None = ⊥
 
 -- a field of the module, or, without a number, the identifier and the name of the module
 abbrev pub UnprintablePart : ModuleTy → Option ℕ → Type 0
 UnprintablePart m (Some i) = UnprintableField (fields_of_kind m.kind) (Some i)
-UnprintablePart m None = printable_label m.label ≡ false
+UnprintablePart m None = label_form.printable m.label ≡ false
 
 -- No text spells the field with the number in its parentheses. Without a number, no text spells the
 -- identifier and the name of the module.

@@ -11,7 +11,8 @@ use Rattle.wat_links.specs.ProducerEntry.{Versioned}
 use Rattle.wat_links.specs.Producers.{names_view}
 use Rattle.wat_print.specs.Form.{any, Form, seq_form, many_form, group_form}
 use Rattle.wat_print.specs.Parts.{each}
-use Rattle.wat_print_module.specs.Strings.{text_form, annotation_form}
+use Rattle.wat_print.specs.Strings.{text_form}
+use Rattle.wat_print_module.specs.Annotation.{annotation_form}
 
 -- a field: its word and its entries
 abbrev pub ProducedTy : Type 0

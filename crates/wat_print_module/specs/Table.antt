@@ -1,23 +1,36 @@
 -- How tables are written.
-use Rattle.std.specs.Prelude.{ℕ, Bool, false, not, ◌&&◌, ◌==◌, if◌then◌else◌, List, ◌∷◌}
-use Rattle.std.specs.Prelude.{◌++◌, codes, flat_map}
-use Rattle.wat_lexer.specs.Token.{Tok, Keyword}
-use Rattle.wat_tokens.specs.Index.{same_index}
+use Rattle.std.specs.Prelude.{ℕ, Bool, false, not, ◌&&◌, ◌==◌, if◌then◌else◌, List, [], ◌∷◌, codes}
+use Rattle.std.specs.Prelude.{Option, ◌⊎◌}
+use Rattle.std.proofs.Common.{inl, inr}
+use Rattle.wat_tokens.specs.Index.{Idx, same_index}
+use Rattle.wat_tokens.specs.Tests.{begins_lparen}
 use Rattle.wat_tokens.specs.Views.{no_items}
 use Rattle.wat_types.specs.Heap.{HeapTy, concrete, exact, abstract_}
-use Rattle.wat_types.specs.Reference.{RefTy}
+use Rattle.wat_types.specs.Limits.{TableTy}
+use Rattle.wat_types.specs.Reference.{RefTy, begins_ref}
 use Rattle.wat_types.specs.declared.heap.AbstractHeapType.{AbstractHeapType}
 use Rattle.wat_types.specs.declared.heap.AbstractHeapType.TheVariants as word
+use Rattle.wat_links.specs.FieldHead.{FieldHeadTy}
 use Rattle.wat_expr.specs.Expression.{Expr}
 use Rattle.wat_fields.specs.Payload.{PayloadTy, indices, exprs, is_funcref}
 use Rattle.wat_fields.specs.Table.{TableKindTy, imported, normal, inline, TableFieldTy}
-use Rattle.wat_print.specs.Before.{spell_table_type, printable_table_type, spell_ref, printable_ref}
-use Rattle.wat_print.specs.Index.{spell_index, printable_index}
-use Rattle.wat_print.specs.Parts.{grouped, spell_flag, spell_option, if_some, each}
-use Rattle.wat_print_instr.specs.ExpressionForm.{spell_expression, printable_expression}
-use Rattle.wat_print_module.specs.FieldHead.{spell_inline_import, printable_inline_import}
-use Rattle.wat_print_module.specs.FieldHead.{spell_head, printable_head}
-use Rattle.wat_print_module.specs.Segments.{spell_item}
+use Rattle.wat_fields.specs.Table.{begins_inline_elems, begins_normal}
+use Rattle.wat_print.specs.Form.{Test, Form, flag_form, seq_form, behind_form, by, by_where}
+use Rattle.wat_print.specs.Form.{else_form, after_form, group_form}
+use Rattle.wat_print.specs.Limits.{width_form, limits_form, table_parts, table_form}
+use Rattle.wat_print.specs.Parts.{spell_option, if_some}
+use Rattle.wat_print.specs.Reference.{ref_form}
+use Rattle.wat_print_instr.specs.Form.{plain_form}
+use Rattle.wat_print_module.specs.Elem.{elem_items_form, elem_indices_form}
+use Rattle.wat_print_module.specs.Expression.{ends_expression, expression_form}
+use Rattle.wat_print_module.specs.FieldHead.{inline_import_form, head_form}
+
+-- p, but only for values that pass `ok`
+abbrev pub where_form : {A : Type 0} → (A → Bool) → Form A → Form A
+where_form ok p = record p {
+  printable = λ v. ok v && p.printable v;
+  ready = λ v. ok v && p.ready v;
+}
 
 -- ---- equality of reference types
 
@@ -53,43 +66,99 @@ same_ref t u = same_flag t.nullable u.nullable && same_heap t.heap u.heap
 
 -- ---- elements
 
--- idx* | ( item Expression )*
-abbrev pub spell_elements : PayloadTy → List Tok
-spell_elements (indices is) = flat_map spell_index is
-spell_elements (exprs t es) = flat_map spell_item es
+abbrev pub some_items : {A : Type 0} → List A → Bool
+some_items vs = not (no_items vs)
+
+-- ( item Expression )* | idx*; a list without items is read as indices
+abbrev pub listed_form : Form (List Expr ⊎ List Idx)
+listed_form = else_form begins_lparen (where_form some_items elem_items_form) elem_indices_form
+
+abbrev pub listed_parts : PayloadTy → List Expr ⊎ List Idx
+listed_parts (indices is) = inr is
+listed_parts (exprs t []) = inr []
+listed_parts (exprs t (e ∷ es)) = inl (e ∷ es)
 
 -- Elements of a table with the element type t: indices if t is `funcref`, or expressions of type t.
 -- If t is `funcref`, there is at least one expression.
 abbrev pub printable_elements : RefTy → PayloadTy → Bool
-printable_elements t (indices is) = is_funcref t && each printable_index is
+printable_elements t (indices is) = is_funcref t && elem_indices_form.printable is
 printable_elements t (exprs u es) =
-    same_ref t u && (not (is_funcref t && no_items es) && each printable_expression es)
+    same_ref t u && (not (is_funcref t && no_items es) && elem_items_form.printable es)
+
+abbrev pub elements_form : RefTy → Form PayloadTy
+elements_form t = by_where (printable_elements t) listed_parts listed_form
+
+-- ---- kinds
+
+-- RefType ( elem listed )
+abbrev pub elems_form : Form (RefTy × (List Expr ⊎ List Idx))
+elems_form = seq_form ref_form (group_form (codes "elem") listed_form)
+
+abbrev pub InlineTree : Type 0
+InlineTree = Bool × (Bool × (RefTy × (List Expr ⊎ List Idx)))
+
+-- shared? i64? elems
+abbrev pub inline_table_form : Form InlineTree
+inline_table_form = seq_form (flag_form (codes "shared")) (seq_form width_form elems_form)
+
+-- not both shared and of 64 bits
+abbrev pub apart : InlineTree → Bool
+apart v = not (v.0 && v.1.0)
+
+-- no reference type is next
+abbrev pub no_ref : Test
+no_ref r = not (begins_ref r)
+
+-- a table type; no reference type follows its `shared`
+abbrev pub type_form : Form TableTy
+type_form =
+    by table_parts (behind_form no_ref (flag_form (codes "shared"))
+    (seq_form limits_form ref_form))
 
 -- the initial value of the elements has an instruction
 abbrev pub printable_initial : Expr → Bool
-printable_initial e = not (no_items e.instrs) && printable_expression e
+printable_initial e = some_items e.instrs && expression_form.printable e
 
--- ---- tables
+-- Expression?
+abbrev pub initial_form : Form (Option Expr)
+initial_form =
+    plain_form (spell_option expression_form.spell) (if_some printable_initial) ends_expression
 
--- InlineImport TableType | TableType Expression? | shared? i64? RefType ( elem elements )
-abbrev pub spell_table_kind : TableKindTy → List Tok
-spell_table_kind (imported i t) = spell_inline_import i ++ spell_table_type t
-spell_table_kind (normal t e) = spell_table_type t ++ spell_option spell_expression e
-spell_table_kind (inline t is64 shared p) =
-    spell_flag (codes "shared") shared
-    ++ (spell_flag (codes "i64") is64
-    ++ (spell_ref t ++ grouped (codes "elem") (spell_elements p)))
+-- TableType Expression?
+abbrev pub normal_table_form : Form (TableTy × Option Expr)
+normal_table_form = seq_form type_form initial_form
+
+-- InlineImport TableType
+abbrev pub imported_table_form : Form ((List ℕ × List ℕ) × TableTy)
+imported_table_form = seq_form inline_import_form table_form
+
+abbrev pub KindTree : Type 0
+KindTree = InlineTree ⊎ (TableTy × Option Expr ⊎ (List ℕ × List ℕ) × TableTy)
+
+abbrev pub table_kind_parts : TableKindTy → KindTree
+table_kind_parts (inline t is64 shared p) = inl (shared, (is64, (t, listed_parts p)))
+table_kind_parts (normal t e) = inr (inl (t, e))
+table_kind_parts (imported i t) = inr (inr (i, t))
 
 -- a table with inline elements isn't both shared and of 64 bits
 abbrev pub printable_table_kind : TableKindTy → Bool
-printable_table_kind (imported i t) = printable_inline_import i && printable_table_type t
-printable_table_kind (normal t e) = printable_table_type t && if_some printable_initial e
 printable_table_kind (inline t is64 shared p) =
-    not (shared && is64) && (printable_ref t && printable_elements t p)
+    not (shared && is64) && (ref_form.printable t && printable_elements t p)
+printable_table_kind (normal t e) = normal_table_form.printable (t, e)
+printable_table_kind (imported i t) = imported_table_form.printable (i, t)
+
+abbrev pub table_kind_form : Form TableKindTy
+table_kind_form =
+    by_where printable_table_kind table_kind_parts
+    (else_form begins_inline_elems (where_form apart inline_table_form)
+    (else_form begins_normal normal_table_form imported_table_form))
+
+-- ---- tables
+
+abbrev pub table_field_parts : TableFieldTy → FieldHeadTy × TableKindTy
+table_field_parts t = (t.head, t.kind)
 
 -- table head kind
-abbrev pub spell_table : TableFieldTy → List Tok
-spell_table t = Keyword (codes "table") ∷ (spell_head t.head ++ spell_table_kind t.kind)
-
-abbrev pub printable_table : TableFieldTy → Bool
-printable_table t = printable_head t.head && printable_table_kind t.kind
+abbrev pub table_field_form : Form TableFieldTy
+table_field_form =
+    by table_field_parts (after_form (codes "table") (seq_form head_form table_kind_form))

@@ -1,17 +1,22 @@
 -- How tags are written.
-use Rattle.std.specs.Prelude.{Bool, ◌&&◌, List, ◌∷◌, ◌++◌, codes}
-use Rattle.wat_lexer.specs.Token.{Tok, Keyword}
+use Rattle.std.specs.Prelude.{ℕ, List, codes, Option}
+use Rattle.wat_types.specs.Group.{FuncTy}
+use Rattle.wat_types.specs.Use.{UseTy}
+use Rattle.wat_links.specs.FieldHead.{FieldHeadTy}
+use Rattle.wat_links.specs.Import.{begins_inline_import}
 use Rattle.wat_fields.specs.Tag.{TagTy}
-use Rattle.wat_print.specs.Before.{spell_use, printable_use}
-use Rattle.wat_print.specs.Parts.{spell_option, if_some}
-use Rattle.wat_print_module.specs.FieldHead.{spell_inline_import, printable_inline_import}
-use Rattle.wat_print_module.specs.FieldHead.{spell_head, printable_head}
+use Rattle.wat_print.specs.Form.{Form, seq_form, by, option_form, after_form}
+use Rattle.wat_print.specs.Use.{use_form}
+use Rattle.wat_print_module.specs.FieldHead.{inline_import_form, head_form}
 
-abbrev pub spell_tag : TagTy → List Tok
-spell_tag t =
-    Keyword (codes "tag") ∷ (spell_head t.head
-    ++ (spell_option spell_inline_import t.import ++ spell_use t.ty))
+-- InlineImport?
+abbrev pub tag_import_form : Form (Option (List ℕ × List ℕ))
+tag_import_form = option_form begins_inline_import inline_import_form
 
-abbrev pub printable_tag : TagTy → Bool
-printable_tag t =
-    printable_head t.head && (if_some printable_inline_import t.import && printable_use t.ty)
+abbrev pub tag_parts : TagTy → FieldHeadTy × (Option (List ℕ × List ℕ) × UseTy FuncTy)
+tag_parts t = (t.head, (t.import, t.ty))
+
+-- tag head InlineImport? TypeUse
+abbrev pub tag_form : Form TagTy
+tag_form =
+    by tag_parts (after_form (codes "tag") (seq_form head_form (seq_form tag_import_form use_form)))

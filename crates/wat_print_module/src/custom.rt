@@ -1,10 +1,13 @@
 //! Printing of custom sections.
 
+ghost use Rattle.std.specs.Prelude.{refl};
 ghost use Rattle.wat_tokens.specs.Groups.{paren};
 ghost use Rattle.wat_links.specs.Custom.{CustomTy, custom_view, custom};
+ghost use Rattle.wat_print.specs.Form.{paren_form};
+ghost use Rattle.wat_print.specs.Printed.{printing_by};
 ghost use Rattle.wat_print.specs.Prints.{Printed};
 ghost use Rattle.wat_print_module.specs.Custom.{custom_form};
-ghost use Rattle.wat_print_module.specs.LinkPrintings.{custom_printing};
+ghost use Rattle.wat_print_module.specs.Laws.Custom.{custom_prints};
 
 use crate::dylink::write_dylink;
 use crate::producers::write_producers;
@@ -32,7 +35,7 @@ impl PrintPart for Custom<'_> {
 
     ghost grammar = { paren custom };
 
-    ghost printing = { custom_printing };
+    ghost printing = { printing_by (paren_form custom_form) custom_prints (λ v h. h) refl refl };
 
     #[tactic(auto, using(wat_print::specs::Laws::Written::puts_put, wat_print::specs::Laws::Written::put_both))]
     fn write(&self, out: &mut Output) -> Result<(), Refused> {

@@ -1,11 +1,13 @@
 //! Printing of the places of custom sections.
 
-ghost use Rattle.std.specs.Prelude.{◌≡◌, IfErr};
+ghost use Rattle.std.specs.Prelude.{◌≡◌, IfErr, refl};
 ghost use Rattle.wat_links.specs.CustomPlace.{section, custom_place};
+ghost use Rattle.wat_print.specs.Printed.{printing_by};
 ghost use Rattle.wat_print.specs.Prints.{Printed};
 ghost use Rattle.wat_print.specs.declared.fault.Refused.TheVariants.{Memory};
 ghost use Rattle.wat_print_module.specs.CustomPlace.{section_word, place_form, place_group_form};
-ghost use Rattle.wat_print_module.specs.LinkPrintings.{section_printing, place_printing};
+ghost use Rattle.wat_print_module.specs.CustomPlace.{section_form};
+ghost use Rattle.wat_print_module.specs.Laws.CustomPlace.{place_prints, section_prints};
 
 use crate::traits::PrintPart;
 use wat_links::{CustomPlace, CustomPlaceAnchor};
@@ -80,7 +82,7 @@ impl PrintPart for CustomPlaceAnchor {
 
     ghost grammar = { section };
 
-    ghost printing = { section_printing };
+    ghost printing = { printing_by section_form section_prints (λ v h. h) refl refl };
 
     #[tactic(auto, using(wat_print::specs::Laws::Written::puts_put))]
     fn write(&self, out: &mut Output) -> Result<(), Refused> {
@@ -97,7 +99,7 @@ impl PrintPart for CustomPlace {
 
     ghost grammar = { custom_place };
 
-    ghost printing = { place_printing };
+    ghost printing = { printing_by place_form place_prints (λ v h. h) refl refl };
 
     #[tactic(auto, using(wat_print::specs::Laws::Written::puts_put))]
     fn write(&self, out: &mut Output) -> Result<(), Refused> {

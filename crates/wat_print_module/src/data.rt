@@ -1,19 +1,17 @@
 //! Printing of data segments.
 
-ghost use Rattle.std.specs.Prelude.{◌≡◌, ◌≢◌, OnOk, IfErr, true, false};
-ghost use Rattle.wat_expr.specs.Expression.{expression_view};
-ghost use Rattle.wat_fields.specs.Data.{active, data_kind_view, DataTy, data_view, data_segment};
-ghost use Rattle.wat_print.specs.Index.{printable_index};
-ghost use Rattle.wat_print.specs.Layout.{Writes};
-ghost use Rattle.wat_print.specs.Text.{put};
-ghost use Rattle.wat_print.specs.declared.fault.Refused.TheVariants.{Memory};
-ghost use Rattle.wat_print_instr.specs.ExpressionForm.{printable_expression};
-ghost use Rattle.wat_print_module.specs.SegmentPrintings.{grouped_data_printing};
-ghost use Rattle.wat_print_module.specs.Segments.{spell_offset, spell_data_memory};
-ghost use Rattle.wat_print_module.specs.Segments.{spell_data_kind, printable_data_kind, spell_data};
-ghost use Rattle.wat_print_module.specs.Segments.{printable_data, spell_grouped_data};
+ghost use Rattle.std.specs.Prelude.{refl};
 ghost use Rattle.wat_tokens.specs.Groups.{paren};
 ghost use Rattle.wat_tokens.specs.Index.{index_view};
+ghost use Rattle.wat_expr.specs.Expression.{expression_view};
+ghost use Rattle.wat_fields.specs.Data.{data_kind_view, DataTy, data_view, data_segment};
+ghost use Rattle.wat_print.specs.Form.{paren_form};
+ghost use Rattle.wat_print.specs.Printed.{printing_by};
+ghost use Rattle.wat_print.specs.Prints.{Printed, PrintedLines};
+ghost use Rattle.wat_print.specs.Laws.Form.{paren_prints};
+ghost use Rattle.wat_print_module.specs.Data.{offset_form, data_memory_form, data_kind_form};
+ghost use Rattle.wat_print_module.specs.Data.{data_form};
+ghost use Rattle.wat_print_module.specs.Laws.Data.{data_prints};
 
 use crate::data_val::write_data_vals;
 use crate::traits::PrintPart;
@@ -27,12 +25,9 @@ use wat_print_instr::places::is_index_0;
 use wat_tokens::Index;
 
 /// Writes `( offset Expression )`.
+#[tactic(auto, using(crate::proofs::Grouped::puts_grouped))]
 pub(crate) fn write_offset(out: &mut Output, offset: &Expression) -> Result<(), Refused>
-    ensures written { OnOk result
-        (Writes (spell_offset (expression_view offset.now)) out.old out.new) }
-    ensures printable { OnOk result (printable_expression (expression_view offset.now) ≡ true) }
-    ensures refused { IfErr result (λ e. e ≢ Memory
-        → printable_expression (expression_view offset.now) ≡ false) }
+    ensures { PrintedLines offset_form (expression_view offset.now) result out.old out.new }
 {
     out.open()?;
     out.word("offset")?;
@@ -41,12 +36,9 @@ pub(crate) fn write_offset(out: &mut Output, offset: &Expression) -> Result<(), 
 }
 
 /// Writes `( memory idx )`, or nothing for memory 0.
+#[tactic(auto, using(wat_print::specs::Laws::Written::put_both))]
 fn write_memory(out: &mut Output, memory: &Index) -> Result<(), Refused>
-    ensures written { OnOk result (out.new ≡ put out.old
-        (spell_data_memory (index_view memory.now))) }
-    ensures printable { OnOk result (printable_index (index_view memory.now) ≡ true) }
-    ensures refused { IfErr result (λ e. e ≢ Memory
-        → printable_index (index_view memory.now) ≡ false) }
+    ensures { Printed data_memory_form (index_view memory.now) result out.old out.new }
 {
     if is_index_0(memory) {
         return Ok(());
@@ -57,41 +49,25 @@ fn write_memory(out: &mut Output, memory: &Index) -> Result<(), Refused>
     out.close()
 }
 
-/// Writes the memory and the offset of an active segment.
-fn write_active(out: &mut Output, memory: &Index, offset: &Expression) -> Result<(), Refused>
-    ensures written { OnOk result (Writes (spell_data_kind
-        (active (index_view memory.now) (expression_view offset.now))) out.old out.new) }
-    ensures printable { OnOk result (printable_data_kind
-        (active (index_view memory.now) (expression_view offset.now)) ≡ true) }
-    ensures refused { IfErr result (λ e. e ≢ Memory → printable_data_kind
-        (active (index_view memory.now) (expression_view offset.now)) ≡ false) }
-{
-    write_memory(out, memory)?;
-    write_offset(out, offset)
-}
-
 /// Writes the memory and the offset of an active segment, or nothing for a passive one.
-#[tactic(auto, using(wat_print::specs::Laws::Written::puts_put))]
+#[tactic(auto, using(wat_print::specs::Laws::Written::puts_put, crate::proofs::Grouped::puts_first))]
 fn write_data_kind(out: &mut Output, kind: &DataKind) -> Result<(), Refused>
-    ensures written { OnOk result
-        (Writes (spell_data_kind (data_kind_view kind.now)) out.old out.new) }
-    ensures printable { OnOk result (printable_data_kind (data_kind_view kind.now) ≡ true) }
-    ensures refused { IfErr result (λ e. e ≢ Memory
-        → printable_data_kind (data_kind_view kind.now) ≡ false) }
+    ensures { PrintedLines data_kind_form (data_kind_view kind.now) result out.old out.new }
 {
     match kind {
         DataKind::Passive => Ok(()),
-        DataKind::Active { memory, offset } => write_active(out, memory, offset),
+        DataKind::Active { memory, offset } => {
+            write_memory(out, memory)?;
+            write_offset(out, offset)
+        }
     }
 }
 
 /// Writes a data segment, without its parentheses (Text Format, Modules, "Data Segments"). Memory 0
 /// is omitted, and the offset is written as `( offset Expression )`.
+#[tactic(auto, using(crate::proofs::Grouped::puts_word, crate::proofs::Grouped::puts_first, crate::proofs::Grouped::puts_last))]
 pub fn write_data(out: &mut Output, segment: &Data) -> Result<(), Refused>
-    ensures written { OnOk result (Writes (spell_data (data_view segment.now)) out.old out.new) }
-    ensures printable { OnOk result (printable_data (data_view segment.now) ≡ true) }
-    ensures refused { IfErr result (λ e. e ≢ Memory
-        → printable_data (data_view segment.now) ≡ false) }
+    ensures { PrintedLines data_form (data_view segment.now) result out.old out.new }
 {
     out.word("data")?;
     write_label(out, &segment.id, &segment.name)?;
@@ -100,12 +76,10 @@ pub fn write_data(out: &mut Output, segment: &Data) -> Result<(), Refused>
 }
 
 /// Writes a data segment in its parentheses.
+#[tactic(auto, using(crate::proofs::Grouped::puts_worded))]
 pub fn write_grouped_data(out: &mut Output, segment: &Data) -> Result<(), Refused>
-    ensures written { OnOk result
-        (Writes (spell_grouped_data (data_view segment.now)) out.old out.new) }
-    ensures printable { OnOk result (printable_data (data_view segment.now) ≡ true) }
-    ensures refused { IfErr result (λ e. e ≢ Memory
-        → printable_data (data_view segment.now) ≡ false) }
+    ensures { PrintedLines (paren_form data_form) (data_view segment.now) result out.old
+        out.new }
 {
     out.open()?;
     write_data(out, segment)?;
@@ -120,7 +94,7 @@ impl PrintPart for Data<'_> {
 
     ghost grammar = { paren data_segment };
 
-    ghost printing = { grouped_data_printing };
+    ghost printing = { printing_by (paren_form data_form) (paren_prints data_prints) (λ v h. h) refl refl };
 
     fn write(&self, out: &mut Output) -> Result<(), Refused> {
         write_grouped_data(out, self)

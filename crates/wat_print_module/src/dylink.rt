@@ -1,16 +1,18 @@
 //! Printing of the `dylink.0` section.
 
-ghost use Rattle.std.specs.Prelude.{◌≡◌, List, map, flat_map};
+ghost use Rattle.std.specs.Prelude.{◌≡◌, List, map, flat_map, refl};
 ghost use Rattle.wat_tokens.specs.Groups.{paren};
 ghost use Rattle.wat_links.specs.Cutting.{dylink};
 ghost use Rattle.wat_links.specs.Dylink.{SubsectionTy, dylink_export_view, dylink_import_view};
 ghost use Rattle.wat_links.specs.Dylink.{subsection_view, dylink_view};
 ghost use Rattle.wat_links.specs.Entries.{of_export, of_import, entries_in};
+ghost use Rattle.wat_print.specs.Form.{paren_form};
+ghost use Rattle.wat_print.specs.Printed.{printing_by};
 ghost use Rattle.wat_print.specs.Prints.{Printed};
 ghost use Rattle.wat_print_module.specs.Dylink.{sizes_form, texts_form, names_form, export_form};
-ghost use Rattle.wat_print_module.specs.Dylink.{import_form, entries_form, dylink_form};
-ghost use Rattle.wat_print_module.specs.Dylink.{is_filled, is_apart, are_cut};
-ghost use Rattle.wat_print_module.specs.LinkPrintings.{dylink_printing};
+ghost use Rattle.wat_print_module.specs.Dylink.{import_form, entries_form, dylink_form, is_filled};
+ghost use Rattle.wat_print_module.specs.Dylink.{is_apart, are_cut};
+ghost use Rattle.wat_print_module.specs.Laws.Dylink.{dylink_prints};
 
 use crate::traits::PrintPart;
 use wat_links::{Dylink0, Dylink0Subsection};
@@ -203,7 +205,7 @@ impl PrintPart for Dylink0<'_> {
 
     ghost grammar = { paren dylink };
 
-    ghost printing = { dylink_printing };
+    ghost printing = { printing_by (paren_form dylink_form) dylink_prints (λ v h. h) refl refl };
 
     #[tactic(auto, using(wat_print::specs::Laws::Written::puts_put, wat_print::specs::Laws::Written::put_both))]
     fn write(&self, out: &mut Output) -> Result<(), Refused> {

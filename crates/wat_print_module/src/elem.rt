@@ -1,22 +1,18 @@
 //! Printing of element segments and their elements.
 
-ghost use Rattle.std.specs.Prelude.{◌≡◌, ◌≢◌, OnOk, IfErr, true, false, map, flat_map};
-ghost use Rattle.wat_expr.specs.Expression.{expression_view};
-ghost use Rattle.wat_fields.specs.Elem.{active, elem_kind_view, ElemTy, elem_view, elem};
-ghost use Rattle.wat_fields.specs.Payload.{payload_view, indices, exprs};
-ghost use Rattle.wat_print.specs.Index.{spell_index, printable_index};
-ghost use Rattle.wat_print.specs.Layout.{Writes};
-ghost use Rattle.wat_print.specs.Parts.{spell_option, if_some, each, WroteLines};
-ghost use Rattle.wat_print.specs.Text.{put};
-ghost use Rattle.wat_print.specs.declared.fault.Refused.TheVariants.{Memory};
-ghost use Rattle.wat_print_instr.specs.ExpressionForm.{printable_expression};
-ghost use Rattle.wat_print_module.specs.SegmentPrintings.{elem_printing};
-ghost use Rattle.wat_print_module.specs.Segments.{spell_item, spell_payload, printable_payload};
-ghost use Rattle.wat_print_module.specs.Segments.{spell_elem_table, spell_elem_kind};
-ghost use Rattle.wat_print_module.specs.Segments.{printable_elem_kind, spell_elem, printable_elem};
+ghost use Rattle.std.specs.Prelude.{map, refl};
 ghost use Rattle.wat_tokens.specs.Index.{index_view};
 ghost use Rattle.wat_tokens.specs.Views.{option_view};
-ghost use Rattle.wat_types.specs.Reference.{ref_view};
+ghost use Rattle.wat_expr.specs.Expression.{expression_view};
+ghost use Rattle.wat_fields.specs.Elem.{elem_kind_view, ElemTy, elem_view, elem};
+ghost use Rattle.wat_fields.specs.Payload.{payload_view};
+ghost use Rattle.wat_print.specs.Form.{any, option_form};
+ghost use Rattle.wat_print.specs.Printed.{printing_by};
+ghost use Rattle.wat_print.specs.Prints.{Printed, PrintedLines};
+ghost use Rattle.wat_print_module.specs.Elem.{elem_item_form, elem_items_form, elem_indices_form};
+ghost use Rattle.wat_print_module.specs.Elem.{payload_form, elem_table_form, elem_kind_form};
+ghost use Rattle.wat_print_module.specs.Elem.{elem_form};
+ghost use Rattle.wat_print_module.specs.Laws.Elem.{elem_prints};
 
 use crate::data::write_offset;
 use crate::traits::PrintPart;
@@ -28,14 +24,11 @@ use wat_print::{Output, Refused};
 use wat_print_instr::expression::write_constant;
 use wat_print_instr::traits::write_each;
 use wat_tokens::Index;
-use wat_types::RefType;
 
 /// Writes `( item Expression )`, on a separate line if the layout has lines.
+#[tactic(auto, using(crate::proofs::Grouped::puts_line_grouped))]
 fn write_item(out: &mut Output, item: &Expression) -> Result<(), Refused>
-    ensures written { OnOk result (Writes (spell_item (expression_view item.now)) out.old out.new) }
-    ensures printable { OnOk result (printable_expression (expression_view item.now) ≡ true) }
-    ensures refused { IfErr result (λ e. e ≢ Memory
-        → printable_expression (expression_view item.now) ≡ false) }
+    ensures { PrintedLines elem_item_form (expression_view item.now) result out.old out.new }
 {
     out.line()?;
     out.open()?;
@@ -45,11 +38,10 @@ fn write_item(out: &mut Output, item: &Expression) -> Result<(), Refused>
 }
 
 /// Writes items in order.
+#[tactic(auto, using(wat_print::specs::Laws::Written::not_each_item))]
 pub(crate) fn write_items(out: &mut Output, items: &[Expression]) -> Result<(), Refused>
-    ensures wrote { OnOk result (WroteLines expression_view spell_item printable_expression
-        items.now out.old out.new) }
-    ensures refused { IfErr result (λ e. e ≢ Memory
-        → each printable_expression (map expression_view items.now) ≡ false) }
+    ensures { PrintedLines elem_items_form (map expression_view items.now) result out.old
+        out.new }
 {
     for item in items {
         write_item(out, item)?;
@@ -57,66 +49,36 @@ pub(crate) fn write_items(out: &mut Output, items: &[Expression]) -> Result<(), 
     Ok(())
 }
 
-/// Writes a type, and items.
-fn write_typed(out: &mut Output, ty: &RefType, items: &[Expression]) -> Result<(), Refused>
-    ensures written { OnOk result (Writes (spell_payload
-        (exprs (ref_view ty.now) (map expression_view items.now))) out.old out.new) }
-    ensures printable { OnOk result (printable_payload
-        (exprs (ref_view ty.now) (map expression_view items.now)) ≡ true) }
-    ensures refused { IfErr result (λ e. e ≢ Memory → printable_payload
-        (exprs (ref_view ty.now) (map expression_view items.now)) ≡ false) }
-{
-    write_ref(out, ty)?;
-    write_items(out, items)
-}
-
 /// Writes indices in order.
 pub(crate) fn write_indices(out: &mut Output, list: &[Index]) -> Result<(), Refused>
-    ensures written { OnOk result (out.new ≡ put out.old
-        (flat_map spell_index (map index_view list.now))) }
-    ensures printable { OnOk result (each printable_index (map index_view list.now) ≡ true) }
-    ensures refused { IfErr result (λ e. e ≢ Memory
-        → each printable_index (map index_view list.now) ≡ false) }
+    ensures { Printed elem_indices_form (map index_view list.now) result out.old out.new }
 {
     write_each(out, list)
 }
 
-/// Writes `func`, and indices.
-fn write_functions(out: &mut Output, list: &[Index]) -> Result<(), Refused>
-    ensures written { OnOk result (out.new ≡ put out.old
-        (spell_payload (indices (map index_view list.now)))) }
-    ensures printable { OnOk result (printable_payload (indices (map index_view list.now)) ≡ true) }
-    ensures refused { IfErr result (λ e. e ≢ Memory
-        → printable_payload (indices (map index_view list.now)) ≡ false) }
-{
-    out.word("func")?;
-    write_indices(out, list)
-}
-
 /// Writes the elements of a segment (Text Format, Modules, "Element Segments"): `func` and indices,
 /// or a type and items, each as `( item Expression )`.
-#[tactic(auto, using(wat_print::specs::Laws::Written::puts_put))]
+#[tactic(auto, using(wat_print::specs::Laws::Written::puts_put, crate::proofs::Grouped::puts_word, crate::proofs::Grouped::puts_first))]
 pub fn write_payload(out: &mut Output, payload: &ElemPayload) -> Result<(), Refused>
-    ensures written { OnOk result
-        (Writes (spell_payload (payload_view payload.now)) out.old out.new) }
-    ensures printable { OnOk result (printable_payload (payload_view payload.now) ≡ true) }
-    ensures refused { IfErr result (λ e. e ≢ Memory
-        → printable_payload (payload_view payload.now) ≡ false) }
+    ensures { PrintedLines payload_form (payload_view payload.now) result out.old out.new }
 {
     match payload {
-        ElemPayload::Indices(list) => write_functions(out, list),
-        ElemPayload::Exprs { ty, exprs } => write_typed(out, ty, exprs),
+        ElemPayload::Indices(list) => {
+            out.word("func")?;
+            write_indices(out, list)
+        }
+        ElemPayload::Exprs { ty, exprs } => {
+            write_ref(out, ty)?;
+            write_items(out, exprs)
+        }
     }
 }
 
 /// Writes `( table idx )`, or nothing if no table is given.
+#[tactic(auto, using(wat_print::specs::Laws::Written::put_both))]
 fn write_elem_table(out: &mut Output, table: &Option<Index>) -> Result<(), Refused>
-    ensures written { OnOk result (out.new ≡ put out.old
-        (spell_option spell_elem_table (option_view index_view table.now))) }
-    ensures printable { OnOk result
-        (if_some printable_index (option_view index_view table.now) ≡ true) }
-    ensures refused { IfErr result (λ e. e ≢ Memory
-        → if_some printable_index (option_view index_view table.now) ≡ false) }
+    ensures { Printed (option_form any elem_table_form) (option_view index_view table.now)
+        result out.old out.new }
 {
     match table {
         Some(table) => {
@@ -129,42 +91,26 @@ fn write_elem_table(out: &mut Output, table: &Option<Index>) -> Result<(), Refus
     }
 }
 
-/// Writes the table and the offset of an active segment.
-fn write_active(out: &mut Output, table: &Option<Index>, offset: &Expression) -> Result<(), Refused>
-    ensures written { OnOk result (Writes (spell_elem_kind
-        (active (option_view index_view table.now) (expression_view offset.now))) out.old
-        out.new) }
-    ensures printable { OnOk result (printable_elem_kind
-        (active (option_view index_view table.now) (expression_view offset.now)) ≡ true) }
-    ensures refused { IfErr result (λ e. e ≢ Memory → printable_elem_kind
-        (active (option_view index_view table.now) (expression_view offset.now)) ≡ false) }
-{
-    write_elem_table(out, table)?;
-    write_offset(out, offset)
-}
-
 /// Writes the mode of a segment: nothing if it is passive, `declare`, or a table and an offset.
-#[tactic(auto, using(wat_print::specs::Laws::Written::puts_put))]
+#[tactic(auto, using(wat_print::specs::Laws::Written::puts_put, crate::proofs::Grouped::puts_first))]
 fn write_elem_kind(out: &mut Output, kind: &ElemKind) -> Result<(), Refused>
-    ensures written { OnOk result
-        (Writes (spell_elem_kind (elem_kind_view kind.now)) out.old out.new) }
-    ensures printable { OnOk result (printable_elem_kind (elem_kind_view kind.now) ≡ true) }
-    ensures refused { IfErr result (λ e. e ≢ Memory
-        → printable_elem_kind (elem_kind_view kind.now) ≡ false) }
+    ensures { PrintedLines elem_kind_form (elem_kind_view kind.now) result out.old out.new }
 {
     match kind {
         ElemKind::Passive => Ok(()),
         ElemKind::Declared => out.word("declare"),
-        ElemKind::Active { table, offset } => write_active(out, table, offset),
+        ElemKind::Active { table, offset } => {
+            write_elem_table(out, table)?;
+            write_offset(out, offset)
+        }
     }
 }
 
 /// Writes an element segment, without its parentheses (Text Format, Modules, "Element Segments").
 /// The table is written if the segment has one, and the offset as `( offset Expression )`.
+#[tactic(auto, using(crate::proofs::Grouped::puts_word, crate::proofs::Grouped::puts_first, wat_print::specs::Laws::Written::puts_both))]
 pub fn write_elem(out: &mut Output, elem: &Elem) -> Result<(), Refused>
-    ensures written { OnOk result (Writes (spell_elem (elem_view elem.now)) out.old out.new) }
-    ensures printable { OnOk result (printable_elem (elem_view elem.now) ≡ true) }
-    ensures refused { IfErr result (λ e. e ≢ Memory → printable_elem (elem_view elem.now) ≡ false) }
+    ensures { PrintedLines elem_form (elem_view elem.now) result out.old out.new }
 {
     out.word("elem")?;
     write_label(out, &elem.id, &elem.name)?;
@@ -179,7 +125,7 @@ impl PrintPart for Elem<'_> {
 
     ghost grammar = { elem };
 
-    ghost printing = { elem_printing };
+    ghost printing = { printing_by elem_form elem_prints (λ v h. h) refl refl };
 
     fn write(&self, out: &mut Output) -> Result<(), Refused> {
         write_elem(out, self)?;

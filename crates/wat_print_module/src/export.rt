@@ -1,12 +1,14 @@
 //! Printing of exports and their types.
 
-ghost use Rattle.std.specs.Prelude.{◌≡◌};
-ghost use Rattle.wat_links.specs.Export.{export_kind, ExportTy, export_view, export_};
-ghost use Rattle.wat_links.specs.Export.{ExportTypeTy, export_type_view, export_type};
+ghost use Rattle.std.specs.Prelude.{◌≡◌, refl};
+ghost use Rattle.wat_links.specs.Export.{export_kind, ExportTy, export_view, export_, ExportTypeTy};
+ghost use Rattle.wat_links.specs.Export.{export_type_view, export_type};
+ghost use Rattle.wat_print.specs.Printed.{printing_by};
 ghost use Rattle.wat_print.specs.Prints.{Printed};
 ghost use Rattle.wat_print_module.specs.Export.{export_kind_word, export_form, export_type_form};
-ghost use Rattle.wat_print_module.specs.LinkPrintings.{export_kind_printing, export_printing};
-ghost use Rattle.wat_print_module.specs.LinkPrintings.{export_type_printing};
+ghost use Rattle.wat_print_module.specs.Export.{export_kind_form};
+ghost use Rattle.wat_print_module.specs.Laws.Export.{export_kind_prints, export_prints};
+ghost use Rattle.wat_print_module.specs.Laws.Export.{export_type_prints};
 
 use crate::item::write_sig_group;
 use crate::traits::PrintPart;
@@ -60,7 +62,7 @@ impl PrintPart for ExportKind {
 
     ghost grammar = { export_kind };
 
-    ghost printing = { export_kind_printing };
+    ghost printing = { printing_by export_kind_form export_kind_prints (λ v h. h) refl refl };
 
     #[tactic(auto, using(wat_print::specs::Laws::Written::puts_put))]
     fn write(&self, out: &mut Output) -> Result<(), Refused> {
@@ -75,7 +77,7 @@ impl PrintPart for Export<'_> {
 
     ghost grammar = { export_ };
 
-    ghost printing = { export_printing };
+    ghost printing = { printing_by export_form export_prints (λ v h. h) refl refl };
 
     #[tactic(auto, using(wat_print::specs::Laws::Written::puts_put))]
     fn write(&self, out: &mut Output) -> Result<(), Refused> {
@@ -90,7 +92,7 @@ impl PrintPart for ExportType<'_> {
 
     ghost grammar = { export_type };
 
-    ghost printing = { export_type_printing };
+    ghost printing = { printing_by export_type_form export_type_prints (λ v h. h) refl refl };
 
     #[tactic(auto, using(wat_print::specs::Laws::Written::puts_put))]
     fn write(&self, out: &mut Output) -> Result<(), Refused> {

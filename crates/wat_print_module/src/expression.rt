@@ -1,8 +1,11 @@
 //! Printing of expressions.
 
+ghost use Rattle.std.specs.Prelude.{refl};
 ghost use Rattle.wat_expr.specs.Expression.{Expr, expression_view};
 ghost use Rattle.wat_expr.specs.ExpressionProduction.{expression};
-ghost use Rattle.wat_print_module.specs.FieldPrintings.{expression_printing};
+ghost use Rattle.wat_print.specs.Printed.{printing_by};
+ghost use Rattle.wat_print_module.specs.Expression.{expression_form};
+ghost use Rattle.wat_print_module.specs.Laws.Expression.{expression_prints};
 
 use crate::traits::PrintPart;
 use wat_expr::Expression;
@@ -16,7 +19,7 @@ impl PrintPart for Expression<'_> {
 
     ghost grammar = { expression };
 
-    ghost printing = { expression_printing };
+    ghost printing = { printing_by expression_form expression_prints (λ v h. h) refl refl };
 
     fn write(&self, out: &mut Output) -> Result<(), Refused> {
         write_expression(out, self)

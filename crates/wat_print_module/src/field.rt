@@ -1,16 +1,13 @@
 //! Printing of the fields of a module.
 
-ghost use Rattle.std.specs.Prelude.{◌≡◌, ◌≢◌, OnOk, IfErr, true, false};
+ghost use Rattle.std.specs.Prelude.{refl};
 ghost use Rattle.wat_tokens.specs.Index.{index_view};
 ghost use Rattle.wat_core.specs.Field.{ModuleFieldTy, field_view};
 ghost use Rattle.wat_core.specs.FieldGroup.{field_group};
-ghost use Rattle.wat_print.specs.Index.{printable_index};
-ghost use Rattle.wat_print.specs.Layout.{Writes};
-ghost use Rattle.wat_print.specs.Text.{put};
-ghost use Rattle.wat_print.specs.declared.fault.Refused.TheVariants.{Memory};
-ghost use Rattle.wat_print_module.specs.Field.{spell_start, spell_module_field};
-ghost use Rattle.wat_print_module.specs.Field.{printable_module_field, spell_field_group};
-ghost use Rattle.wat_print_module.specs.ModulePrintings.{module_field_printing};
+ghost use Rattle.wat_print.specs.Printed.{printing_by};
+ghost use Rattle.wat_print.specs.Prints.{Printed, PrintedLines};
+ghost use Rattle.wat_print_module.specs.Field.{start_form, content_form, field_form};
+ghost use Rattle.wat_print_module.specs.Laws.Field.{field_prints};
 
 use crate::custom::write_custom;
 use crate::data::write_data;
@@ -31,11 +28,9 @@ use wat_tokens::Index;
 
 /// Writes `start` and the index of the start function, without parentheses (Text Format, Modules,
 /// "Start Function").
+#[tactic(auto, using(wat_print::specs::Laws::Written::put_both))]
 pub fn write_start(out: &mut Output, index: &Index) -> Result<(), Refused>
-    ensures written { OnOk result (out.new ≡ put out.old (spell_start (index_view index.now))) }
-    ensures printable { OnOk result (printable_index (index_view index.now) ≡ true) }
-    ensures refused { IfErr result (λ e. e ≢ Memory
-        → printable_index (index_view index.now) ≡ false) }
+    ensures { Printed start_form (index_view index.now) result out.old out.new }
 {
     out.word("start")?;
     write_index(out, index)
@@ -44,11 +39,7 @@ pub fn write_start(out: &mut Output, index: &Index) -> Result<(), Refused>
 /// Writes a field without its parentheses.
 #[tactic(auto, using(wat_print::specs::Laws::Written::puts_put))]
 fn write_inside(out: &mut Output, field: &ModuleField) -> Result<(), Refused>
-    ensures written { OnOk result (Writes (spell_module_field (field_view field.now)) out.old
-        out.new) }
-    ensures printable { OnOk result (printable_module_field (field_view field.now) ≡ true) }
-    ensures refused { IfErr result (λ e. e ≢ Memory
-        → printable_module_field (field_view field.now) ≡ false) }
+    ensures { PrintedLines content_form (field_view field.now) result out.old out.new }
 {
     match field {
         ModuleFieldOf::Type(ty) => write_type(out, ty),
@@ -70,11 +61,7 @@ fn write_inside(out: &mut Output, field: &ModuleField) -> Result<(), Refused>
 /// Writes a field in parentheses, on a separate line if the layout has lines (Text Format,
 /// "Modules").
 pub fn write_field(out: &mut Output, field: &ModuleField) -> Result<(), Refused>
-    ensures written { OnOk result (Writes (spell_field_group (field_view field.now)) out.old
-        out.new) }
-    ensures printable { OnOk result (printable_module_field (field_view field.now) ≡ true) }
-    ensures refused { IfErr result (λ e. e ≢ Memory
-        → printable_module_field (field_view field.now) ≡ false) }
+    ensures { PrintedLines field_form (field_view field.now) result out.old out.new }
 {
     out.line()?;
     out.open()?;
@@ -90,7 +77,7 @@ impl PrintPart for ModuleField<'_> {
 
     ghost grammar = { field_group };
 
-    ghost printing = { module_field_printing };
+    ghost printing = { printing_by field_form field_prints (λ f h. h) refl refl };
 
     fn write(&self, out: &mut Output) -> Result<(), Refused> {
         write_field(out, self)

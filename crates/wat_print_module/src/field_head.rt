@@ -1,20 +1,17 @@
 //! Printing of inline exports and imports, and of the beginning of a field.
 
-ghost use Rattle.std.specs.Prelude.{◌≡◌, ◌≢◌, ℕ, List, OnOk, IfErr, true, false};
-ghost use Rattle.std.specs.Str.{is_utf8};
+ghost use Rattle.std.specs.Prelude.{◌≡◌, ℕ, List, IfErr, map, refl};
 ghost use Rattle.wat_types.specs.Label.{label_view};
 ghost use Rattle.wat_links.specs.Export.{inline_export_view, inline_export};
 ghost use Rattle.wat_links.specs.FieldHead.{FieldHeadTy, field_head, head_view, head};
 ghost use Rattle.wat_links.specs.Import.{inline_import_view, inline_import};
-ghost use Rattle.wat_print.specs.Parts.{Wrote};
-ghost use Rattle.wat_print.specs.Text.{put};
+ghost use Rattle.wat_print.specs.Printed.{printing_by};
+ghost use Rattle.wat_print.specs.Prints.{Printed};
 ghost use Rattle.wat_print.specs.declared.fault.Refused.TheVariants.{Memory};
-ghost use Rattle.wat_print_module.specs.FieldHead.{spell_inline_name, spell_inline_export};
-ghost use Rattle.wat_print_module.specs.FieldHead.{printable_inline_export, spell_inline_import};
-ghost use Rattle.wat_print_module.specs.FieldHead.{printable_inline_import, spell_head};
-ghost use Rattle.wat_print_module.specs.FieldHead.{printable_head};
-ghost use Rattle.wat_print_module.specs.FieldPrintings.{inline_export_printing};
-ghost use Rattle.wat_print_module.specs.FieldPrintings.{inline_import_printing, head_printing};
+ghost use Rattle.wat_print_module.specs.FieldHead.{inline_name_form, inline_export_form};
+ghost use Rattle.wat_print_module.specs.FieldHead.{inline_import_form, head_form};
+ghost use Rattle.wat_print_module.specs.Laws.FieldHead.{head_prints, inline_export_prints};
+ghost use Rattle.wat_print_module.specs.Laws.FieldHead.{inline_import_prints};
 
 use crate::traits::PrintPart;
 use wat_links::{FieldHead, InlineExport, InlineImport};
@@ -23,9 +20,9 @@ use wat_print::{Output, Refused};
 use wat_tokens::{Id, NameAnnotation};
 
 /// Writes `( export name )`.
+#[tactic(auto, using(wat_print::specs::Laws::Written::put_both))]
 fn write_inline_name(out: &mut Output, name: &str) -> Result<(), Refused>
-    ensures written { OnOk result (out.new ≡ put out.old (spell_inline_name name.now)) }
-    ensures printable { OnOk result (is_utf8 name.now ≡ true) }
+    ensures printed { Printed inline_name_form name.now result out.old out.new }
     ensures refused { IfErr result (λ e. e ≡ Memory) }
 {
     out.open()?;
@@ -35,9 +32,10 @@ fn write_inline_name(out: &mut Output, name: &str) -> Result<(), Refused>
 }
 
 /// Writes inline exports in order.
+#[tactic(auto, using(std::proofs::lemmas::List::drop_more, wat_print::specs::Laws::Written::put_both))]
 fn write_inline_names(out: &mut Output, names: &[&str]) -> Result<(), Refused>
-    ensures wrote { OnOk result (Wrote (λ n. n.now) spell_inline_name is_utf8 names.now out.old
-        out.new) }
+    ensures printed { Printed inline_export_form (map (λ n. n.now) names.now) result out.old
+        out.new }
     ensures refused { IfErr result (λ e. e ≡ Memory) }
 {
     for name in names {
@@ -49,10 +47,8 @@ fn write_inline_names(out: &mut Output, names: &[&str]) -> Result<(), Refused>
 /// Writes the inline exports of a field (Text Format, Modules, "Exports", Abbreviations):
 /// `( export name )*`.
 pub fn write_inline_export(out: &mut Output, exports: &InlineExport) -> Result<(), Refused>
-    ensures written { OnOk result (out.new ≡ put out.old
-        (spell_inline_export (inline_export_view exports.now))) }
-    ensures printable { OnOk result
-        (printable_inline_export (inline_export_view exports.now) ≡ true) }
+    ensures printed { Printed inline_export_form (inline_export_view exports.now) result out.old
+        out.new }
     ensures refused { IfErr result (λ e. e ≡ Memory) }
 {
     write_inline_names(out, &exports.names)
@@ -60,11 +56,10 @@ pub fn write_inline_export(out: &mut Output, exports: &InlineExport) -> Result<(
 
 /// Writes the inline import of a field (Text Format, Modules, "Imports", Abbreviations):
 /// `( import name name )`.
+#[tactic(auto, using(wat_print::specs::Laws::Written::put_both))]
 pub fn write_inline_import(out: &mut Output, import: &InlineImport) -> Result<(), Refused>
-    ensures written { OnOk result (out.new ≡ put out.old
-        (spell_inline_import (inline_import_view import.now))) }
-    ensures printable { OnOk result
-        (printable_inline_import (inline_import_view import.now) ≡ true) }
+    ensures printed { Printed inline_import_form (inline_import_view import.now) result out.old
+        out.new }
     ensures refused { IfErr result (λ e. e ≡ Memory) }
 {
     out.open()?;
@@ -82,12 +77,9 @@ pub fn write_head(
     name: &Option<NameAnnotation>,
     exports: &InlineExport,
 ) -> Result<(), Refused>
-    ensures written { OnOk result (out.new ≡ put out.old (spell_head
-        (field_head (label_view id.now name.now) (inline_export_view exports.now)))) }
-    ensures printable { OnOk result (printable_head
-        (field_head (label_view id.now name.now) (inline_export_view exports.now)) ≡ true) }
-    ensures refused { IfErr result (λ e. e ≢ Memory → printable_head
-        (field_head (label_view id.now name.now) (inline_export_view exports.now)) ≡ false) }
+    ensures { Printed head_form
+        (field_head (label_view id.now name.now) (inline_export_view exports.now)) result out.old
+        out.new }
 {
     write_label(out, id, name)?;
     write_inline_export(out, exports)
@@ -100,7 +92,7 @@ impl PrintPart for InlineExport<'_> {
 
     ghost grammar = { inline_export };
 
-    ghost printing = { inline_export_printing };
+    ghost printing = { printing_by inline_export_form inline_export_prints (λ v h. h) refl refl };
 
     #[tactic(auto, using(wat_print::specs::Laws::Written::puts_put))]
     fn write(&self, out: &mut Output) -> Result<(), Refused> {
@@ -115,7 +107,7 @@ impl PrintPart for InlineImport<'_> {
 
     ghost grammar = { inline_import };
 
-    ghost printing = { inline_import_printing };
+    ghost printing = { printing_by inline_import_form inline_import_prints (λ v h. h) refl refl };
 
     #[tactic(auto, using(wat_print::specs::Laws::Written::puts_put))]
     fn write(&self, out: &mut Output) -> Result<(), Refused> {
@@ -131,7 +123,7 @@ impl PrintPart for FieldHead<'_> {
 
     ghost grammar = { head };
 
-    ghost printing = { head_printing };
+    ghost printing = { printing_by head_form head_prints (λ v h. h) refl refl };
 
     #[tactic(auto, using(wat_print::specs::Laws::Written::puts_put))]
     fn write(&self, out: &mut Output) -> Result<(), Refused> {

@@ -1,20 +1,16 @@
 //! Printing of functions.
 
-ghost use Rattle.std.specs.Prelude.{◌≡◌, ◌≢◌, ◌&&◌, ◌++◌, OnOk, IfErr, true, false};
+ghost use Rattle.std.specs.Prelude.{refl};
+ghost use Rattle.wat_links.specs.Import.{inline_import_view};
 ghost use Rattle.wat_expr.specs.Expression.{expression_view};
 ghost use Rattle.wat_fields.specs.Func.{FuncFieldTy, func_use_view, func_kind_view, func_view};
 ghost use Rattle.wat_fields.specs.Func.{func, imported, inline};
 ghost use Rattle.wat_fields.specs.Local.{locals_view};
-ghost use Rattle.wat_links.specs.Import.{inline_import_view};
-ghost use Rattle.wat_print.specs.Before.{printable_use};
-ghost use Rattle.wat_print.specs.Layout.{Writes};
-ghost use Rattle.wat_print.specs.Text.{put};
-ghost use Rattle.wat_print.specs.declared.fault.Refused.TheVariants.{Memory};
-ghost use Rattle.wat_print_instr.specs.ExpressionForm.{spell_expression, printable_expression};
-ghost use Rattle.wat_print_module.specs.FieldPrintings.{func_printing};
-ghost use Rattle.wat_print_module.specs.Func.{spell_exact_use, spell_defined_func};
-ghost use Rattle.wat_print_module.specs.Func.{printable_defined_func, spell_func, printable_func};
-ghost use Rattle.wat_print_module.specs.Local.{spell_locals, printable_locals};
+ghost use Rattle.wat_print.specs.Printed.{printing_by};
+ghost use Rattle.wat_print.specs.Prints.{Printed, PrintedLines};
+ghost use Rattle.wat_print_module.specs.Func.{defined_func_form, func_form};
+ghost use Rattle.wat_print_module.specs.Item.{exact_form};
+ghost use Rattle.wat_print_module.specs.Laws.Func.{func_prints};
 
 use crate::field_head::{write_head, write_inline_import};
 use crate::local::write_locals;
@@ -28,16 +24,13 @@ use wat_print_instr::expression::write_expression;
 use wat_types::{FunctionType, TypeUse};
 
 /// Writes the type of an imported function, after `exact` if the type is exact.
+#[tactic(auto, using(wat_print::specs::Laws::Written::put_both))]
 fn write_exact_use(
     out: &mut Output,
     ty: &TypeUse<FunctionType>,
     is_exact: bool,
 ) -> Result<(), Refused>
-    ensures written { OnOk result (out.new ≡ put out.old
-        (spell_exact_use (func_use_view ty.now) is_exact)) }
-    ensures printable { OnOk result (printable_use (func_use_view ty.now) ≡ true) }
-    ensures refused { IfErr result (λ e. e ≢ Memory
-        → printable_use (func_use_view ty.now) ≡ false) }
+    ensures { Printed exact_form (func_use_view ty.now, is_exact) result out.old out.new }
 {
     if !is_exact {
         return write_use(out, ty);
@@ -49,58 +42,37 @@ fn write_exact_use(
 }
 
 /// Writes an inline import and the type of the function.
+#[tactic(auto, using(wat_print::specs::Laws::Written::put_both))]
 fn write_imported(
     out: &mut Output,
     ty: &TypeUse<FunctionType>,
     import: &InlineImport,
     is_exact: bool,
 ) -> Result<(), Refused>
-    ensures written { OnOk result (out.new ≡ put out.old (spell_defined_func
-        (func_use_view ty.now, imported (inline_import_view import.now) is_exact))) }
-    ensures printable { OnOk result (printable_defined_func
-        (func_use_view ty.now, imported (inline_import_view import.now) is_exact) ≡ true) }
-    ensures refused { IfErr result (λ e. e ≢ Memory → printable_defined_func
-        (func_use_view ty.now, imported (inline_import_view import.now) is_exact) ≡ false) }
+    ensures { Printed defined_func_form
+        (func_use_view ty.now, imported (inline_import_view import.now) is_exact) result out.old
+        out.new }
 {
     write_inline_import(out, import)?;
     write_exact_use(out, ty, is_exact)
 }
 
-/// Writes locals and a body.
-fn write_body(out: &mut Output, locals: &[Local], body: &Expression) -> Result<(), Refused>
-    ensures written { OnOk result (Writes (spell_locals (locals_view locals.now)
-        ++ spell_expression (expression_view body.now)) out.old out.new) }
-    ensures printable { OnOk result (printable_locals (locals_view locals.now)
-        && printable_expression (expression_view body.now) ≡ true) }
-    ensures refused { IfErr result (λ e. e ≢ Memory → printable_locals (locals_view locals.now)
-        && printable_expression (expression_view body.now) ≡ false) }
-{
-    write_locals(out, locals)?;
-    write_expression(out, body)
-}
-
 /// Writes the type of a function, its locals and its body.
+#[tactic(auto, using(crate::proofs::Grouped::on_lines))]
 fn write_inline(
     out: &mut Output,
     ty: &TypeUse<FunctionType>,
     locals: &[Local],
     body: &Expression,
 ) -> Result<(), Refused>
-    ensures written { OnOk result (Writes (spell_defined_func (
+    ensures { PrintedLines defined_func_form (
       func_use_view ty.now,
       inline (locals_view locals.now) (expression_view body.now),
-    )) out.old out.new) }
-    ensures printable { OnOk result (printable_defined_func (
-      func_use_view ty.now,
-      inline (locals_view locals.now) (expression_view body.now),
-    ) ≡ true) }
-    ensures refused { IfErr result (λ e. e ≢ Memory → printable_defined_func (
-      func_use_view ty.now,
-      inline (locals_view locals.now) (expression_view body.now),
-    ) ≡ false) }
+    ) result out.old out.new }
 {
     write_use(out, ty)?;
-    write_body(out, locals, body)
+    write_locals(out, locals)?;
+    write_expression(out, body)
 }
 
 /// Writes the type of a function, and its import or its locals and body.
@@ -110,12 +82,8 @@ fn write_defined(
     ty: &TypeUse<FunctionType>,
     kind: &FuncKind,
 ) -> Result<(), Refused>
-    ensures written { OnOk result (Writes (spell_defined_func
-        (func_use_view ty.now, func_kind_view kind.now)) out.old out.new) }
-    ensures printable { OnOk result (printable_defined_func
-        (func_use_view ty.now, func_kind_view kind.now) ≡ true) }
-    ensures refused { IfErr result (λ e. e ≢ Memory → printable_defined_func
-        (func_use_view ty.now, func_kind_view kind.now) ≡ false) }
+    ensures { PrintedLines defined_func_form (func_use_view ty.now, func_kind_view kind.now) result
+        out.old out.new }
 {
     match kind {
         FuncKind::Import(import, is_exact) => write_imported(out, ty, import, *is_exact),
@@ -125,10 +93,9 @@ fn write_defined(
 
 /// Writes a function, without its parentheses (Text Format, Modules, "Functions"): its inline
 /// exports and import, each local in a separate group, and each instruction on a separate line.
+#[tactic(auto, using(crate::proofs::Grouped::on_lines))]
 pub fn write_func(out: &mut Output, func: &Func) -> Result<(), Refused>
-    ensures written { OnOk result (Writes (spell_func (func_view func.now)) out.old out.new) }
-    ensures printable { OnOk result (printable_func (func_view func.now) ≡ true) }
-    ensures refused { IfErr result (λ e. e ≢ Memory → printable_func (func_view func.now) ≡ false) }
+    ensures { PrintedLines func_form (func_view func.now) result out.old out.new }
 {
     out.word("func")?;
     write_head(out, &func.id, &func.name, &func.exports)?;
@@ -142,7 +109,7 @@ impl PrintPart for Func<'_> {
 
     ghost grammar = { func };
 
-    ghost printing = { func_printing };
+    ghost printing = { printing_by func_form func_prints (λ v h. h) refl refl };
 
     fn write(&self, out: &mut Output) -> Result<(), Refused> {
         write_func(out, self)

@@ -1,17 +1,15 @@
 //! Printing of globals.
 
-ghost use Rattle.std.specs.Prelude.{◌≡◌, ◌≢◌, OnOk, IfErr, true, false};
+ghost use Rattle.std.specs.Prelude.{refl};
+ghost use Rattle.wat_types.specs.Storage.{global_type_view};
+ghost use Rattle.wat_links.specs.Import.{inline_import_view};
 ghost use Rattle.wat_expr.specs.Expression.{expression_view};
 ghost use Rattle.wat_fields.specs.Global.{GlobalFieldTy, imported, inline, global_kind_view};
 ghost use Rattle.wat_fields.specs.Global.{global_view, global};
-ghost use Rattle.wat_links.specs.Import.{inline_import_view};
-ghost use Rattle.wat_print.specs.Layout.{Writes};
-ghost use Rattle.wat_print.specs.Text.{put};
-ghost use Rattle.wat_print.specs.declared.fault.Refused.TheVariants.{Memory};
-ghost use Rattle.wat_print_module.specs.FieldPrintings.{global_field_printing};
-ghost use Rattle.wat_print_module.specs.Global.{spell_defined_global, printable_defined_global};
-ghost use Rattle.wat_print_module.specs.Global.{spell_global_field, printable_global_field};
-ghost use Rattle.wat_types.specs.Storage.{global_type_view};
+ghost use Rattle.wat_print.specs.Printed.{printing_by};
+ghost use Rattle.wat_print.specs.Prints.{Printed, PrintedLines};
+ghost use Rattle.wat_print_module.specs.Global.{defined_global_form, global_field_form};
+ghost use Rattle.wat_print_module.specs.Laws.Global.{global_field_prints};
 
 use crate::field_head::{write_head, write_inline_import};
 use crate::traits::PrintPart;
@@ -24,26 +22,20 @@ use wat_print_instr::expression::write_constant;
 use wat_types::GlobalType;
 
 /// Writes an inline import and the type of the global.
+#[tactic(auto, using(wat_print::specs::Laws::Written::put_both))]
 fn write_imported(out: &mut Output, ty: &GlobalType, import: &InlineImport) -> Result<(), Refused>
-    ensures written { OnOk result (out.new ≡ put out.old (spell_defined_global
-        (global_type_view ty.now, imported (inline_import_view import.now)))) }
-    ensures printable { OnOk result (printable_defined_global
-        (global_type_view ty.now, imported (inline_import_view import.now)) ≡ true) }
-    ensures refused { IfErr result (λ e. e ≢ Memory → printable_defined_global
-        (global_type_view ty.now, imported (inline_import_view import.now)) ≡ false) }
+    ensures { Printed defined_global_form
+        (global_type_view ty.now, imported (inline_import_view import.now)) result out.old out.new }
 {
     write_inline_import(out, import)?;
     write_global(out, ty)
 }
 
 /// Writes the type of a global and its initial value.
+#[tactic(auto, using(crate::proofs::Grouped::on_lines))]
 fn write_inline(out: &mut Output, ty: &GlobalType, value: &Expression) -> Result<(), Refused>
-    ensures written { OnOk result (Writes (spell_defined_global
-        (global_type_view ty.now, inline (expression_view value.now))) out.old out.new) }
-    ensures printable { OnOk result (printable_defined_global
-        (global_type_view ty.now, inline (expression_view value.now)) ≡ true) }
-    ensures refused { IfErr result (λ e. e ≢ Memory → printable_defined_global
-        (global_type_view ty.now, inline (expression_view value.now)) ≡ false) }
+    ensures { PrintedLines defined_global_form
+        (global_type_view ty.now, inline (expression_view value.now)) result out.old out.new }
 {
     write_global(out, ty)?;
     write_constant(out, value)
@@ -52,12 +44,8 @@ fn write_inline(out: &mut Output, ty: &GlobalType, value: &Expression) -> Result
 /// Writes the type of a global, and its import or its initial value.
 #[tactic(auto, using(wat_print::specs::Laws::Written::puts_put))]
 fn write_defined(out: &mut Output, ty: &GlobalType, kind: &GlobalKind) -> Result<(), Refused>
-    ensures written { OnOk result (Writes (spell_defined_global
-        (global_type_view ty.now, global_kind_view kind.now)) out.old out.new) }
-    ensures printable { OnOk result (printable_defined_global
-        (global_type_view ty.now, global_kind_view kind.now) ≡ true) }
-    ensures refused { IfErr result (λ e. e ≢ Memory → printable_defined_global
-        (global_type_view ty.now, global_kind_view kind.now) ≡ false) }
+    ensures { PrintedLines defined_global_form
+        (global_type_view ty.now, global_kind_view kind.now) result out.old out.new }
 {
     match kind {
         GlobalKind::Import(import) => write_imported(out, ty, import),
@@ -67,12 +55,9 @@ fn write_defined(out: &mut Output, ty: &GlobalType, kind: &GlobalKind) -> Result
 
 /// Writes a global, without its parentheses (Text Format, Modules, "Globals"): its inline exports
 /// and import, and each instruction of its initial value on a separate line.
+#[tactic(auto, using(crate::proofs::Grouped::on_lines))]
 pub fn write_global_field(out: &mut Output, global: &Global) -> Result<(), Refused>
-    ensures written { OnOk result
-        (Writes (spell_global_field (global_view global.now)) out.old out.new) }
-    ensures printable { OnOk result (printable_global_field (global_view global.now) ≡ true) }
-    ensures refused { IfErr result (λ e. e ≢ Memory
-        → printable_global_field (global_view global.now) ≡ false) }
+    ensures { PrintedLines global_field_form (global_view global.now) result out.old out.new }
 {
     out.word("global")?;
     write_head(out, &global.id, &global.name, &global.exports)?;
@@ -86,7 +71,7 @@ impl PrintPart for Global<'_> {
 
     ghost grammar = { global };
 
-    ghost printing = { global_field_printing };
+    ghost printing = { printing_by global_field_form global_field_prints (λ v h. h) refl refl };
 
     fn write(&self, out: &mut Output) -> Result<(), Refused> {
         write_global_field(out, self)

@@ -1,16 +1,17 @@
 //! Printing of imports.
 
-ghost use Rattle.std.specs.Prelude.{◌≡◌, map};
+ghost use Rattle.std.specs.Prelude.{◌≡◌, map, refl};
 ghost use Rattle.wat_links.specs.Forms.{imports};
 ghost use Rattle.wat_links.specs.Import.{typed_view, named_view, items_view, ImportsTy, module_of};
 ghost use Rattle.wat_links.specs.Import.{imports_view};
 ghost use Rattle.wat_links.specs.Item.{sig_view};
 ghost use Rattle.wat_print.specs.Form.{paren_form};
+ghost use Rattle.wat_print.specs.Printed.{printing_by};
 ghost use Rattle.wat_print.specs.Prints.{Printed};
 ghost use Rattle.wat_print_module.specs.Import.{typed_form, typed_items_form, named_form};
 ghost use Rattle.wat_print_module.specs.Import.{named_items_form, shared_form, items_form};
 ghost use Rattle.wat_print_module.specs.Import.{imports_form};
-ghost use Rattle.wat_print_module.specs.LinkPrintings.{imports_printing};
+ghost use Rattle.wat_print_module.specs.Laws.Import.{imports_prints};
 
 use crate::item::write_sig_group;
 use crate::traits::PrintPart;
@@ -123,7 +124,7 @@ impl PrintPart for Imports<'_> {
 
     ghost grammar = { imports };
 
-    ghost printing = { imports_printing };
+    ghost printing = { printing_by imports_form imports_prints (λ v h. h) refl refl };
 
     #[tactic(auto, using(wat_print::specs::Laws::Written::puts_put))]
     fn write(&self, out: &mut Output) -> Result<(), Refused> {

@@ -1,14 +1,15 @@
 //! Printing of the signatures of imported and exported items.
 
-ghost use Rattle.std.specs.Prelude.{◌≡◌, codes};
-ghost use Rattle.wat_links.specs.Item.{item_kind_view, SigTy, sig_view, item_sig};
+ghost use Rattle.std.specs.Prelude.{◌≡◌, codes, refl};
 ghost use Rattle.wat_types.specs.Function.{function_view};
 ghost use Rattle.wat_types.specs.Use.{use_view};
+ghost use Rattle.wat_links.specs.Item.{item_kind_view, SigTy, sig_view, item_sig};
 ghost use Rattle.wat_print.specs.Form.{paren_form, group_form};
+ghost use Rattle.wat_print.specs.Printed.{printing_by};
 ghost use Rattle.wat_print.specs.Prints.{Printed};
 ghost use Rattle.wat_print.specs.Use.{use_form};
 ghost use Rattle.wat_print_module.specs.Item.{item_word, item_form, sig_form};
-ghost use Rattle.wat_print_module.specs.LinkPrintings.{sig_printing};
+ghost use Rattle.wat_print_module.specs.Laws.Item.{sig_prints};
 
 use crate::traits::PrintPart;
 use wat_links::{ItemKind, ItemSig};
@@ -87,7 +88,7 @@ impl PrintPart for ItemSig<'_> {
 
     ghost grammar = { item_sig };
 
-    ghost printing = { sig_printing };
+    ghost printing = { printing_by sig_form sig_prints (λ v h. h) refl refl };
 
     #[tactic(auto, using(wat_print::specs::Laws::Written::puts_put))]
     fn write(&self, out: &mut Output) -> Result<(), Refused> {

@@ -1,16 +1,17 @@
 //! Printing of the locals of functions.
 
-ghost use Rattle.std.specs.Prelude.{◌≡◌, ◌≢◌, List, OnOk, IfErr, true, false};
+ghost use Rattle.std.specs.Prelude.{◌≡◌, ◌||◌, List, refl};
+ghost use Rattle.wat_tokens.specs.Tests.{more};
 ghost use Rattle.wat_fields.specs.Local.{LocalTy, local_view, locals_view, local_parser_view};
 ghost use Rattle.wat_fields.specs.Local.{local_parser};
-ghost use Rattle.wat_print.specs.Label.{none_labelled};
-ghost use Rattle.wat_print.specs.Parts.{each, Wrote};
-ghost use Rattle.wat_print.specs.Text.{put};
-ghost use Rattle.wat_print.specs.declared.fault.Refused.TheVariants.{Memory};
-ghost use Rattle.wat_print_module.specs.FieldPrintings.{local_parser_printing};
-ghost use Rattle.wat_print_module.specs.Local.{local_label, spell_listed, printable_local};
-ghost use Rattle.wat_print_module.specs.Local.{spell_local, spell_local_parser, may_share_group};
-ghost use Rattle.wat_print_module.specs.Local.{printable_local_parser};
+ghost use Rattle.wat_print.specs.Form.{many_form};
+ghost use Rattle.wat_print.specs.Label.{none_labelled, at_most_one};
+ghost use Rattle.wat_print.specs.Printed.{printing_by};
+ghost use Rattle.wat_print.specs.Prints.{Printed};
+ghost use Rattle.wat_print.specs.Reference.{val_form};
+ghost use Rattle.wat_print_module.specs.Local.{local_label, local_type, listed_local_form};
+ghost use Rattle.wat_print_module.specs.Local.{local_form, locals_form, local_parser_form};
+ghost use Rattle.wat_print_module.specs.Laws.Local.{local_parser_prints};
 
 use crate::traits::PrintPart;
 use wat_fields::{Local, LocalParser};
@@ -21,22 +22,17 @@ use wat_print::{Output, Refused};
 /// Writes a local, without its group.
 #[tactic(auto, using(wat_print::specs::Laws::Written::put_both))]
 fn write_listed(out: &mut Output, local: &Local) -> Result<(), Refused>
-    ensures written { OnOk result (out.new ≡ put out.old (spell_listed (local_view local.now))) }
-    ensures printable { OnOk result (printable_local (local_view local.now) ≡ true) }
-    ensures refused { IfErr result (λ e. e ≢ Memory
-        → printable_local (local_view local.now) ≡ false) }
+    ensures { Printed listed_local_form (local_view local.now) result out.old out.new }
 {
     write_label(out, &local.id, &local.name)?;
     write_val(out, &local.ty)
 }
 
 /// Writes locals in order, without a group.
-#[tactic(auto, using(wat_print::specs::Laws::Written::not_each))]
+#[tactic(auto, using(std::proofs::lemmas::List::drop_more, wat_print::specs::Laws::Written::put_both))]
 fn write_all_listed(out: &mut Output, locals: &[Local]) -> Result<(), Refused>
-    ensures wrote { OnOk result (Wrote local_view spell_listed printable_local locals.now out.old
-        out.new) }
-    ensures refused { IfErr result (λ e. e ≢ Memory
-        → each printable_local (locals_view locals.now) ≡ false) }
+    ensures { Printed (many_form more listed_local_form) (locals_view locals.now) result out.old
+        out.new }
 {
     for local in locals {
         write_listed(out, local)?;
@@ -45,11 +41,9 @@ fn write_all_listed(out: &mut Output, locals: &[Local]) -> Result<(), Refused>
 }
 
 /// Writes a local in a separate group.
+#[tactic(auto, using(wat_print::specs::Laws::Written::put_both))]
 fn write_local(out: &mut Output, local: &Local) -> Result<(), Refused>
-    ensures written { OnOk result (out.new ≡ put out.old (spell_local (local_view local.now))) }
-    ensures printable { OnOk result (printable_local (local_view local.now) ≡ true) }
-    ensures refused { IfErr result (λ e. e ≢ Memory
-        → printable_local (local_view local.now) ≡ false) }
+    ensures { Printed local_form (local_view local.now) result out.old out.new }
 {
     out.open()?;
     out.word("local")?;
@@ -58,12 +52,9 @@ fn write_local(out: &mut Output, local: &Local) -> Result<(), Refused>
 }
 
 /// Writes the locals of a function (Text Format, Modules, "Functions"), each in a separate group.
-#[tactic(auto, using(wat_print::specs::Laws::Written::not_each))]
+#[tactic(auto, using(std::proofs::lemmas::List::drop_more, wat_print::specs::Laws::Written::put_both))]
 pub fn write_locals(out: &mut Output, locals: &[Local]) -> Result<(), Refused>
-    ensures wrote { OnOk result (Wrote local_view spell_local printable_local locals.now out.old
-        out.new) }
-    ensures refused { IfErr result (λ e. e ≢ Memory
-        → each printable_local (locals_view locals.now) ≡ false) }
+    ensures { Printed locals_form (locals_view locals.now) result out.old out.new }
 {
     for local in locals {
         write_local(out, local)?;
@@ -86,7 +77,8 @@ fn are_unlabelled(locals: &[Local]) -> bool
 
 /// Whether the locals may share one group.
 fn may_stand_together(locals: &[Local]) -> bool
-    ensures { result ≡ may_share_group (locals_view locals.now) }
+    ensures { result ≡ at_most_one val_form local_label local_type (locals_view locals.now)
+        || none_labelled local_label (locals_view locals.now) }
 {
     if locals.len() < 2 {
         return true;
@@ -97,12 +89,9 @@ fn may_stand_together(locals: &[Local]) -> bool
 /// Writes the locals of one group, without its parentheses (Text Format, Modules, "Functions",
 /// Abbreviations). It fails with Label if there are several locals, and a local has an identifier
 /// or a name.
+#[tactic(auto, using(wat_print::specs::Laws::Written::put_both))]
 fn write_local_parser(out: &mut Output, group: &LocalParser) -> Result<(), Refused>
-    ensures written { OnOk result (out.new ≡ put out.old
-        (spell_local_parser (local_parser_view group.now))) }
-    ensures printable { OnOk result (printable_local_parser (local_parser_view group.now) ≡ true) }
-    ensures refused { IfErr result (λ e. e ≢ Memory
-        → printable_local_parser (local_parser_view group.now) ≡ false) }
+    ensures { Printed local_parser_form (local_parser_view group.now) result out.old out.new }
 {
     if !may_stand_together(&group.locals) {
         return Err(Refused::Label);
@@ -118,7 +107,7 @@ impl PrintPart for LocalParser<'_> {
 
     ghost grammar = { local_parser };
 
-    ghost printing = { local_parser_printing };
+    ghost printing = { printing_by local_parser_form local_parser_prints (λ v h. h) refl refl };
 
     #[tactic(auto, using(wat_print::specs::Laws::Written::puts_put))]
     fn write(&self, out: &mut Output) -> Result<(), Refused> {

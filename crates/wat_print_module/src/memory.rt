@@ -1,17 +1,15 @@
 //! Printing of memories.
 
-ghost use Rattle.std.specs.Prelude.{◌≡◌, ◌≢◌, OnOk, IfErr, true, false, codes};
+ghost use Rattle.std.specs.Prelude.{refl};
+ghost use Rattle.wat_links.specs.Import.{inline_import_view};
 ghost use Rattle.wat_fields.specs.DataVal.{data_vals_view};
 ghost use Rattle.wat_fields.specs.Memory.{imported, inline, memory_kind_view, MemoryTy};
 ghost use Rattle.wat_fields.specs.Memory.{memory_view, memory};
-ghost use Rattle.wat_links.specs.Import.{inline_import_view};
-ghost use Rattle.wat_print.specs.Parts.{grouped, each};
-ghost use Rattle.wat_print.specs.Text.{put};
-ghost use Rattle.wat_print.specs.declared.fault.Refused.TheVariants.{Memory as NoMemory};
-ghost use Rattle.wat_print_module.specs.Memory.{spell_memory_kind, printable_memory_kind};
-ghost use Rattle.wat_print_module.specs.Memory.{spell_memory, printable_memory};
-ghost use Rattle.wat_print_module.specs.SegmentPrintings.{memory_printing};
-ghost use Rattle.wat_print_module.specs.Segments.{printable_data_val, spell_data_vals};
+ghost use Rattle.wat_print.specs.Printed.{printing_by};
+ghost use Rattle.wat_print.specs.Prints.{Printed};
+ghost use Rattle.wat_print_module.specs.Memory.{data_group_form, memory_kind_form};
+ghost use Rattle.wat_print_module.specs.Memory.{memory_field_form};
+ghost use Rattle.wat_print_module.specs.Laws.Memory.{memory_field_prints};
 
 use crate::data_val::write_data_vals;
 use crate::field_head::{write_head, write_inline_import};
@@ -23,24 +21,19 @@ use wat_print::{Output, Refused};
 use wat_types::MemoryType;
 
 /// Writes an inline import and the type of the memory.
+#[tactic(auto, using(wat_print::specs::Laws::Written::put_both))]
 fn write_imported(out: &mut Output, import: &InlineImport, ty: &MemoryType) -> Result<(), Refused>
-    ensures written { OnOk result (out.new ≡ put out.old (spell_memory_kind
-        (imported (inline_import_view import.now) ty.now))) }
-    ensures printable { OnOk result (printable_memory_kind
-        (imported (inline_import_view import.now) ty.now) ≡ true) }
-    ensures refused { IfErr result (λ e. e ≢ NoMemory → printable_memory_kind
-        (imported (inline_import_view import.now) ty.now) ≡ false) }
+    ensures { Printed memory_kind_form (imported (inline_import_view import.now) ty.now) result
+        out.old out.new }
 {
     write_inline_import(out, import)?;
     write_memory_type(out, ty)
 }
 
 /// Writes `( data DataVal* )`.
+#[tactic(auto, using(wat_print::specs::Laws::Written::put_both))]
 fn write_inline_data(out: &mut Output, values: &[DataVal]) -> Result<(), Refused>
-    ensures written { OnOk result (out.new ≡ put out.old
-        (grouped (codes "data") (spell_data_vals (data_vals_view values.now)))) }
-    ensures printable { OnOk result (each printable_data_val (data_vals_view values.now) ≡ true) }
-    ensures refused { IfErr result (λ e. e ≡ NoMemory) }
+    ensures { Printed data_group_form (data_vals_view values.now) result out.old out.new }
 {
     out.open()?;
     out.word("data")?;
@@ -49,18 +42,15 @@ fn write_inline_data(out: &mut Output, values: &[DataVal]) -> Result<(), Refused
 }
 
 /// Writes the inline data of a memory.
+#[tactic(auto, using(wat_print::specs::Laws::Written::put_both))]
 fn write_inline(
     out: &mut Output,
     is64: bool,
     page_size_log2: Option<u32>,
     values: &[DataVal],
 ) -> Result<(), Refused>
-    ensures written { OnOk result (out.new ≡ put out.old (spell_memory_kind
-        (inline is64 page_size_log2 (data_vals_view values.now)))) }
-    ensures printable { OnOk result (printable_memory_kind
-        (inline is64 page_size_log2 (data_vals_view values.now)) ≡ true) }
-    ensures refused { IfErr result (λ e. e ≢ NoMemory → printable_memory_kind
-        (inline is64 page_size_log2 (data_vals_view values.now)) ≡ false) }
+    ensures { Printed memory_kind_form
+        (inline is64 page_size_log2 (data_vals_view values.now)) result out.old out.new }
 {
     write_flag(out, "i64", is64)?;
     write_page_size(out, page_size_log2)?;
@@ -69,11 +59,7 @@ fn write_inline(
 
 /// Writes the part of a memory after its identifier, name and exports.
 fn write_memory_kind(out: &mut Output, kind: &MemoryKind) -> Result<(), Refused>
-    ensures written { OnOk result (out.new ≡ put out.old
-        (spell_memory_kind (memory_kind_view kind.now))) }
-    ensures printable { OnOk result (printable_memory_kind (memory_kind_view kind.now) ≡ true) }
-    ensures refused { IfErr result (λ e. e ≢ NoMemory
-        → printable_memory_kind (memory_kind_view kind.now) ≡ false) }
+    ensures { Printed memory_kind_form (memory_kind_view kind.now) result out.old out.new }
 {
     match kind {
         MemoryKind::Import { import, ty } => write_imported(out, import, ty),
@@ -89,11 +75,9 @@ fn write_memory_kind(out: &mut Output, kind: &MemoryKind) -> Result<(), Refused>
 /// Writes a memory, without its parentheses (Text Format, Modules, "Memories"), with its inline
 /// exports, import and data. It fails with PageSize if a page has 2 to the k bytes and k is 32 or
 /// more.
+#[tactic(auto, using(wat_print::specs::Laws::Written::put_both))]
 pub fn write_memory(out: &mut Output, memory: &Memory) -> Result<(), Refused>
-    ensures written { OnOk result (out.new ≡ put out.old (spell_memory (memory_view memory.now))) }
-    ensures printable { OnOk result (printable_memory (memory_view memory.now) ≡ true) }
-    ensures refused { IfErr result (λ e. e ≢ NoMemory
-        → printable_memory (memory_view memory.now) ≡ false) }
+    ensures { Printed memory_field_form (memory_view memory.now) result out.old out.new }
 {
     out.word("memory")?;
     write_head(out, &memory.id, &memory.name, &memory.exports)?;
@@ -107,7 +91,7 @@ impl PrintPart for Memory<'_> {
 
     ghost grammar = { memory };
 
-    ghost printing = { memory_printing };
+    ghost printing = { printing_by memory_field_form memory_field_prints (λ v h. h) refl refl };
 
     #[tactic(auto, using(wat_print::specs::Laws::Written::puts_put))]
     fn write(&self, out: &mut Output) -> Result<(), Refused> {

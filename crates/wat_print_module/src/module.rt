@@ -1,24 +1,23 @@
 //! Printing of modules.
 
-ghost use Rattle.std.specs.Prelude.{◌≡◌, ◌≢◌, OnOk, IfOk, IfErr, true, false, map};
-ghost use Rattle.std.specs.Prelude.{string_bytes, Some, None};
+ghost use Rattle.std.specs.Prelude.{◌≡◌, ◌≢◌, OnOk, IfOk, IfErr, true, false, map, string_bytes};
+ghost use Rattle.std.specs.Prelude.{Some, None, refl};
 ghost use Rattle.wat_tokens.specs.Groups.{paren};
 ghost use Rattle.wat_core.specs.Field.{field_view};
 ghost use Rattle.wat_core.specs.Module.{binary, ModuleTy, module_kind_view, module_view, module_};
 ghost use Rattle.wat_core.specs.Text.{SpellsModule};
 ghost use Rattle.wat_print.specs.Layout.{Writes};
 ghost use Rattle.wat_print.specs.Parts.{each, WroteLines};
-ghost use Rattle.wat_print.specs.Printed.{NoneSpells};
-ghost use Rattle.wat_print.specs.Text.{put, printed_text};
+ghost use Rattle.wat_print.specs.Printed.{NoneSpells, printing_by};
+ghost use Rattle.wat_print.specs.Prints.{Printed};
+ghost use Rattle.wat_print.specs.Text.{printed_text};
 ghost use Rattle.wat_print.specs.declared.fault.Refused.TheVariants.{Memory};
 ghost use Rattle.wat_print.specs.declared.output.Layout.TheVariants.{Line};
-ghost use Rattle.wat_print_module.specs.Field.{printable_module_field, spell_field_group};
-ghost use Rattle.wat_print_module.specs.Module.{spell_module_kind, printable_module_kind};
-ghost use Rattle.wat_print_module.specs.Module.{spell_module, printable_module, spell_module_group};
-ghost use Rattle.wat_print_module.specs.Module.{UnprintablePart, UnprintableField, NonePart};
-ghost use Rattle.wat_print_module.specs.Module.{fields_of_kind};
-ghost use Rattle.wat_print_module.specs.ModulePrintings.{module_printing};
-ghost use Rattle.wat_print.specs.Strings.{printable_string};
+ghost use Rattle.wat_print_module.specs.Field.{field_form};
+ghost use Rattle.wat_print_module.specs.Module.{binary_form, module_kind_form, module_form};
+ghost use Rattle.wat_print_module.specs.Module.{spell_module_group, UnprintablePart};
+ghost use Rattle.wat_print_module.specs.Module.{UnprintableField, NonePart, fields_of_kind};
+ghost use Rattle.wat_print_module.specs.Laws.Module.{module_prints};
 
 use crate::field::write_field;
 use crate::raw::write_pieces;
@@ -70,11 +69,11 @@ impl From<Refused> for ModuleRefused {
 
 /// Writes the field with the number, on a separate line if the layout has lines.
 fn write_numbered(out: &mut Output, field: &ModuleField, number: usize) -> Result<(), ModuleRefused>
-    ensures written { OnOk result (Writes (spell_field_group (field_view field.now)) out.old
+    ensures written { OnOk result (Writes (field_form.spell (field_view field.now)) out.old
         out.new) }
-    ensures printable { OnOk result (printable_module_field (field_view field.now) ≡ true) }
+    ensures printable { OnOk result (field_form.printable (field_view field.now) ≡ true) }
     ensures refused { IfErr result (λ e. e.reason ≢ Memory
-        → printable_module_field (field_view field.now) ≡ false) }
+        → field_form.printable (field_view field.now) ≡ false) }
     ensures number { IfErr result (λ e. e.field ≡ Some number) }
 {
     match write_field(out, field) {
@@ -88,7 +87,7 @@ fn write_numbered(out: &mut Output, field: &ModuleField, number: usize) -> Resul
 
 /// Writes fields, each on a separate line if the layout has lines.
 fn write_fields(out: &mut Output, fields: &[ModuleField]) -> Result<(), ModuleRefused>
-    ensures wrote { OnOk result (WroteLines field_view spell_field_group printable_module_field
+    ensures wrote { OnOk result (WroteLines field_view field_form.spell field_form.printable
         fields.now out.old out.new) }
     ensures refused { IfErr result (λ e. e.reason ≢ Memory
         → UnprintableField (map field_view fields.now) e.field) }
@@ -100,10 +99,9 @@ fn write_fields(out: &mut Output, fields: &[ModuleField]) -> Result<(), ModuleRe
 }
 
 /// Writes `binary` and the strings of the binary form.
+#[tactic(auto, using(wat_print::specs::Laws::Written::put_both))]
 fn write_binary(out: &mut Output, pieces: &[&[u8]]) -> Result<(), Refused>
-    ensures written { OnOk result (out.new ≡ put out.old
-        (spell_module_kind (binary (map (λ s. s.now) pieces.now)))) }
-    ensures printable { OnOk result (each printable_string (map (λ s. s.now) pieces.now) ≡ true) }
+    ensures printed { Printed binary_form (map (λ s. s.now) pieces.now) result out.old out.new }
     ensures refused { IfErr result (λ e. e ≡ Memory) }
 {
     out.word("binary")?;
@@ -112,9 +110,10 @@ fn write_binary(out: &mut Output, pieces: &[&[u8]]) -> Result<(), Refused>
 
 /// Writes the fields or the binary form of a module.
 fn write_kind(out: &mut Output, kind: &ModuleKind) -> Result<(), ModuleRefused>
-    ensures written { OnOk result (Writes (spell_module_kind (module_kind_view kind.now)) out.old
-        out.new) }
-    ensures printable { OnOk result (printable_module_kind (module_kind_view kind.now) ≡ true) }
+    ensures written { OnOk result (Writes (module_kind_form.spell (module_kind_view kind.now))
+        out.old out.new) }
+    ensures printable { OnOk result
+        (module_kind_form.printable (module_kind_view kind.now) ≡ true) }
     ensures refused { IfErr result (λ e. e.reason ≢ Memory
         → UnprintableField (fields_of_kind (module_kind_view kind.now)) e.field) }
 {
@@ -132,8 +131,9 @@ fn write_kind(out: &mut Output, kind: &ModuleKind) -> Result<(), ModuleRefused>
 
 /// Writes a module without its parentheses.
 fn write_content(out: &mut Output, value: &Module) -> Result<(), ModuleRefused>
-    ensures written { OnOk result (Writes (spell_module (module_view value.now)) out.old out.new) }
-    ensures printable { OnOk result (printable_module (module_view value.now) ≡ true) }
+    ensures written { OnOk result (Writes (module_form.spell (module_view value.now)) out.old
+        out.new) }
+    ensures printable { OnOk result (module_form.printable (module_view value.now) ≡ true) }
     ensures refused { IfErr result (λ e. e.reason ≢ Memory
         → UnprintablePart (module_view value.now) e.field) }
 {
@@ -147,7 +147,7 @@ fn write_content(out: &mut Output, value: &Module) -> Result<(), ModuleRefused>
 pub fn write_module(out: &mut Output, value: &Module) -> Result<(), ModuleRefused>
     ensures written { OnOk result (Writes (spell_module_group (module_view value.now)) out.old
         out.new) }
-    ensures printable { OnOk result (printable_module (module_view value.now) ≡ true) }
+    ensures printable { OnOk result (module_form.printable (module_view value.now) ≡ true) }
     ensures refused { IfErr result (λ e. e.reason ≢ Memory
         → UnprintablePart (module_view value.now) e.field) }
 {
@@ -188,7 +188,7 @@ impl PrintPart for VisibleModule<'_> {
 
     ghost grammar = { module_ };
 
-    ghost printing = { module_printing };
+    ghost printing = { printing_by module_form module_prints (λ m h. h) refl refl };
 
     #[tactic(auto, using(crate::specs::Laws::Module::part_unprintable))]
     fn write(&self, out: &mut Output) -> Result<(), Refused> {

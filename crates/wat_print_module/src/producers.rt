@@ -1,15 +1,16 @@
 //! Printing of the `producers` section.
 
-ghost use Rattle.std.specs.Prelude.{◌≡◌, List, IfOk, map};
-ghost use Rattle.wat_tokens.specs.Tests.{more};
+ghost use Rattle.std.specs.Prelude.{◌≡◌, List, IfOk, map, refl};
 ghost use Rattle.wat_tokens.specs.Groups.{paren};
+ghost use Rattle.wat_tokens.specs.Tests.{more};
 ghost use Rattle.wat_links.specs.Producers.{names_view, producers_view, producers};
-ghost use Rattle.wat_print.specs.Form.{many_form};
+ghost use Rattle.wat_print.specs.Form.{many_form, paren_form};
+ghost use Rattle.wat_print.specs.Printed.{printing_by};
 ghost use Rattle.wat_print.specs.Prints.{Printed};
-ghost use Rattle.wat_print_module.specs.LinkPrintings.{producers_printing};
 ghost use Rattle.wat_print_module.specs.Producers.{ProducedTy, produced_view, produced_form};
 ghost use Rattle.wat_print_module.specs.Producers.{field_form, field_of_word, fields_behind};
 ghost use Rattle.wat_print_module.specs.Producers.{fields_form, producers_form};
+ghost use Rattle.wat_print_module.specs.Laws.Producers.{producers_prints};
 
 use crate::traits::PrintPart;
 use wat_links::Producers;
@@ -97,7 +98,7 @@ impl PrintPart for Producers<'_> {
 
     ghost grammar = { paren producers };
 
-    ghost printing = { producers_printing };
+    ghost printing = { printing_by (paren_form producers_form) producers_prints (λ v h. h) refl refl };
 
     #[tactic(auto, using(wat_print::specs::Laws::Written::puts_put, wat_print::specs::Laws::Written::put_both))]
     fn write(&self, out: &mut Output) -> Result<(), Refused> {

@@ -1,12 +1,14 @@
 //! Printing of custom sections with any name.
 
-ghost use Rattle.std.specs.Prelude.{◌≡◌, IfErr, map};
+ghost use Rattle.std.specs.Prelude.{◌≡◌, IfErr, map, refl};
 ghost use Rattle.wat_tokens.specs.Groups.{paren};
 ghost use Rattle.wat_links.specs.Raw.{RawTy, raw_view, raw_custom};
+ghost use Rattle.wat_print.specs.Form.{paren_form};
+ghost use Rattle.wat_print.specs.Printed.{printing_by};
 ghost use Rattle.wat_print.specs.Prints.{Printed};
 ghost use Rattle.wat_print.specs.declared.fault.Refused.TheVariants.{Memory};
 ghost use Rattle.wat_print_module.specs.Custom.{pieces_form, raw_form};
-ghost use Rattle.wat_print_module.specs.LinkPrintings.{raw_printing};
+ghost use Rattle.wat_print_module.specs.Laws.Custom.{raw_prints};
 
 use crate::custom_place::write_place_group;
 use crate::traits::PrintPart;
@@ -47,7 +49,7 @@ impl PrintPart for RawCustomSection<'_> {
 
     ghost grammar = { paren raw_custom };
 
-    ghost printing = { raw_printing };
+    ghost printing = { printing_by (paren_form raw_form) raw_prints (λ v h. h) refl refl };
 
     #[tactic(auto, using(wat_print::specs::Laws::Written::puts_put, wat_print::specs::Laws::Written::put_both))]
     fn write(&self, out: &mut Output) -> Result<(), Refused> {

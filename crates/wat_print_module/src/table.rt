@@ -1,24 +1,21 @@
 //! Printing of tables.
 
-ghost use Rattle.std.specs.Prelude.{◌≡◌, ◌≢◌, ◌&&◌, OnOk, IfErr, true, false, codes, map};
-ghost use Rattle.wat_expr.specs.Expression.{expression_view};
-ghost use Rattle.wat_fields.specs.Payload.{payload_view, indices, exprs, is_funcref};
-ghost use Rattle.wat_fields.specs.Table.{imported, inline, normal, table_kind_view, TableFieldTy};
-ghost use Rattle.wat_fields.specs.Table.{table_view, table};
-ghost use Rattle.wat_links.specs.Import.{inline_import_view};
-ghost use Rattle.wat_print.specs.Layout.{Writes};
-ghost use Rattle.wat_print.specs.Parts.{grouped, spell_option, if_some};
-ghost use Rattle.wat_print.specs.Text.{put};
-ghost use Rattle.wat_print.specs.declared.fault.Refused.TheVariants.{Memory};
-ghost use Rattle.wat_print_instr.specs.ExpressionForm.{spell_expression};
-ghost use Rattle.wat_print_module.specs.SegmentPrintings.{table_printing};
-ghost use Rattle.wat_print_module.specs.Table.{same_ref, spell_elements, printable_elements};
-ghost use Rattle.wat_print_module.specs.Table.{printable_initial, spell_table_kind};
-ghost use Rattle.wat_print_module.specs.Table.{printable_table_kind, spell_table, printable_table};
+ghost use Rattle.std.specs.Prelude.{◌≡◌, ◌&&◌, codes, map, refl};
 ghost use Rattle.wat_tokens.specs.Index.{index_view};
 ghost use Rattle.wat_tokens.specs.Views.{option_view, no_items};
 ghost use Rattle.wat_types.specs.Limits.{table_type_view};
 ghost use Rattle.wat_types.specs.Reference.{ref_view};
+ghost use Rattle.wat_links.specs.Import.{inline_import_view};
+ghost use Rattle.wat_expr.specs.Expression.{expression_view};
+ghost use Rattle.wat_fields.specs.Payload.{payload_view, indices, exprs, is_funcref};
+ghost use Rattle.wat_fields.specs.Table.{inline, table_kind_view, TableFieldTy, table_view, table};
+ghost use Rattle.wat_print.specs.Form.{group_form};
+ghost use Rattle.wat_print.specs.Printed.{printing_by};
+ghost use Rattle.wat_print.specs.Prints.{Printed, PrintedLines};
+ghost use Rattle.wat_print_module.specs.Table.{same_ref, elements_form, initial_form};
+ghost use Rattle.wat_print_module.specs.Table.{normal_table_form, imported_table_form};
+ghost use Rattle.wat_print_module.specs.Table.{table_kind_form, table_field_form};
+ghost use Rattle.wat_print_module.specs.Laws.Table.{table_field_prints};
 
 use crate::elem::{write_indices, write_items};
 use crate::field_head::{write_head, write_inline_import};
@@ -43,12 +40,8 @@ fn same_type(a: &RefType, b: &RefType) -> bool
 /// Writes the indices of an inline table with the element type. It fails unless the type is
 /// `funcref`.
 fn write_functions(out: &mut Output, ty: &RefType, list: &[Index]) -> Result<(), Refused>
-    ensures written { OnOk result (out.new ≡ put out.old
-        (spell_elements (indices (map index_view list.now)))) }
-    ensures printable { OnOk result (printable_elements (ref_view ty.now)
-        (indices (map index_view list.now)) ≡ true) }
-    ensures refused { IfErr result (λ e. e ≢ Memory → printable_elements (ref_view ty.now)
-        (indices (map index_view list.now)) ≡ false) }
+    ensures { Printed (elements_form (ref_view ty.now)) (indices (map index_view list.now)) result
+        out.old out.new }
 {
     if !is_funcref(*ty) {
         return Err(Refused::Table);
@@ -66,18 +59,15 @@ fn is_bare_funcref(ty: &RefType, list: &[Expression]) -> bool
 
 /// Writes the expressions of an inline table with the element type. It fails if the expressions
 /// have another type, or if the type is `funcref` and there is no expression.
+#[tactic(auto, using(crate::specs::Laws::Table::items_written))]
 fn write_listed_items(
     out: &mut Output,
     ty: &RefType,
     own: &RefType,
     list: &[Expression],
 ) -> Result<(), Refused>
-    ensures written { OnOk result (Writes (spell_elements
-        (exprs (ref_view own.now) (map expression_view list.now))) out.old out.new) }
-    ensures printable { OnOk result (printable_elements (ref_view ty.now)
-        (exprs (ref_view own.now) (map expression_view list.now)) ≡ true) }
-    ensures refused { IfErr result (λ e. e ≢ Memory → printable_elements (ref_view ty.now)
-        (exprs (ref_view own.now) (map expression_view list.now)) ≡ false) }
+    ensures { PrintedLines (elements_form (ref_view ty.now))
+        (exprs (ref_view own.now) (map expression_view list.now)) result out.old out.new }
 {
     if !same_type(ty, own) {
         return Err(Refused::Table);
@@ -91,12 +81,8 @@ fn write_listed_items(
 /// Writes the elements of an inline table with the element type: indices or items.
 #[tactic(auto, using(wat_print::specs::Laws::Written::puts_put))]
 fn write_elements(out: &mut Output, ty: &RefType, payload: &ElemPayload) -> Result<(), Refused>
-    ensures written { OnOk result
-        (Writes (spell_elements (payload_view payload.now)) out.old out.new) }
-    ensures printable { OnOk result (printable_elements (ref_view ty.now) (payload_view payload.now)
-        ≡ true) }
-    ensures refused { IfErr result (λ e. e ≢ Memory
-        → printable_elements (ref_view ty.now) (payload_view payload.now) ≡ false) }
+    ensures { PrintedLines (elements_form (ref_view ty.now)) (payload_view payload.now) result
+        out.old out.new }
 {
     match payload {
         ElemPayload::Indices(list) => write_functions(out, ty, list),
@@ -105,13 +91,10 @@ fn write_elements(out: &mut Output, ty: &RefType, payload: &ElemPayload) -> Resu
 }
 
 /// Writes `( elem elements )`.
+#[tactic(auto, using(crate::proofs::Grouped::puts_grouped))]
 fn write_elem_group(out: &mut Output, ty: &RefType, payload: &ElemPayload) -> Result<(), Refused>
-    ensures written { OnOk result (Writes (grouped (codes "elem")
-        (spell_elements (payload_view payload.now))) out.old out.new) }
-    ensures printable { OnOk result (printable_elements (ref_view ty.now) (payload_view payload.now)
-        ≡ true) }
-    ensures refused { IfErr result (λ e. e ≢ Memory
-        → printable_elements (ref_view ty.now) (payload_view payload.now) ≡ false) }
+    ensures { PrintedLines (group_form (codes "elem") (elements_form (ref_view ty.now)))
+        (payload_view payload.now) result out.old out.new }
 {
     out.open()?;
     out.word("elem")?;
@@ -121,6 +104,7 @@ fn write_elem_group(out: &mut Output, ty: &RefType, payload: &ElemPayload) -> Re
 
 /// Writes the element type and the elements of an inline table. It fails if the table is both
 /// shared and of 64 bits.
+#[tactic(auto, using(crate::proofs::Grouped::puts_first))]
 fn write_inline(
     out: &mut Output,
     elem: &RefType,
@@ -128,12 +112,9 @@ fn write_inline(
     shared: bool,
     payload: &ElemPayload,
 ) -> Result<(), Refused>
-    ensures written { OnOk result (Writes (spell_table_kind
-        (inline (ref_view elem.now) is64 shared (payload_view payload.now))) out.old out.new) }
-    ensures printable { OnOk result (printable_table_kind
-        (inline (ref_view elem.now) is64 shared (payload_view payload.now)) ≡ true) }
-    ensures refused { IfErr result (λ e. e ≢ Memory → printable_table_kind
-        (inline (ref_view elem.now) is64 shared (payload_view payload.now)) ≡ false) }
+    ensures { PrintedLines table_kind_form
+        (inline (ref_view elem.now) is64 shared (payload_view payload.now)) result out.old
+        out.new }
 {
     if shared && is64 {
         return Err(Refused::Table);
@@ -147,12 +128,8 @@ fn write_inline(
 /// Writes the initial value of the elements, if the table has one. It fails if the value has no
 /// instruction.
 fn write_initial(out: &mut Output, value: &Option<Expression>) -> Result<(), Refused>
-    ensures written { OnOk result (Writes
-        (spell_option spell_expression (option_view expression_view value.now)) out.old out.new) }
-    ensures printable { OnOk result
-        (if_some printable_initial (option_view expression_view value.now) ≡ true) }
-    ensures refused { IfErr result (λ e. e ≢ Memory
-        → if_some printable_initial (option_view expression_view value.now) ≡ false) }
+    ensures { PrintedLines initial_form (option_view expression_view value.now) result out.old
+        out.new }
 {
     match value {
         Some(value) => {
@@ -166,27 +143,20 @@ fn write_initial(out: &mut Output, value: &Option<Expression>) -> Result<(), Ref
 }
 
 /// Writes a table type and the initial value of the elements.
+#[tactic(auto, using(crate::proofs::Grouped::puts_first))]
 fn write_normal(out: &mut Output, ty: &TableType, value: &Option<Expression>) -> Result<(), Refused>
-    ensures written { OnOk result (Writes (spell_table_kind
-        (normal (table_type_view ty.now) (option_view expression_view value.now))) out.old
-        out.new) }
-    ensures printable { OnOk result (printable_table_kind
-        (normal (table_type_view ty.now) (option_view expression_view value.now)) ≡ true) }
-    ensures refused { IfErr result (λ e. e ≢ Memory → printable_table_kind
-        (normal (table_type_view ty.now) (option_view expression_view value.now)) ≡ false) }
+    ensures { PrintedLines normal_table_form
+        (table_type_view ty.now, option_view expression_view value.now) result out.old out.new }
 {
     write_table_type(out, ty)?;
     write_initial(out, value)
 }
 
 /// Writes an inline import and the type of the table.
+#[tactic(auto, using(wat_print::specs::Laws::Written::put_both))]
 fn write_imported(out: &mut Output, import: &InlineImport, ty: &TableType) -> Result<(), Refused>
-    ensures written { OnOk result (out.new ≡ put out.old (spell_table_kind
-        (imported (inline_import_view import.now) (table_type_view ty.now)))) }
-    ensures printable { OnOk result (printable_table_kind
-        (imported (inline_import_view import.now) (table_type_view ty.now)) ≡ true) }
-    ensures refused { IfErr result (λ e. e ≢ Memory → printable_table_kind
-        (imported (inline_import_view import.now) (table_type_view ty.now)) ≡ false) }
+    ensures { Printed imported_table_form (inline_import_view import.now, table_type_view ty.now)
+        result out.old out.new }
 {
     write_inline_import(out, import)?;
     write_table_type(out, ty)
@@ -195,11 +165,7 @@ fn write_imported(out: &mut Output, import: &InlineImport, ty: &TableType) -> Re
 /// Writes the part of a table after its identifier, name and exports.
 #[tactic(auto, using(wat_print::specs::Laws::Written::puts_put))]
 fn write_table_kind(out: &mut Output, kind: &TableKind) -> Result<(), Refused>
-    ensures written { OnOk result
-        (Writes (spell_table_kind (table_kind_view kind.now)) out.old out.new) }
-    ensures printable { OnOk result (printable_table_kind (table_kind_view kind.now) ≡ true) }
-    ensures refused { IfErr result (λ e. e ≢ Memory
-        → printable_table_kind (table_kind_view kind.now) ≡ false) }
+    ensures { PrintedLines table_kind_form (table_kind_view kind.now) result out.old out.new }
 {
     match kind {
         TableKind::Import { import, ty } => write_imported(out, import, ty),
@@ -222,11 +188,9 @@ fn write_table_kind(out: &mut Output, kind: &TableKind) -> Result<(), Refused>
 /// - the inline elements are an empty list of expressions, and the type is `funcref`;
 /// - the table has inline elements, and is both shared and of 64 bits;
 /// - the initial value has no instruction.
+#[tactic(auto, using(crate::proofs::Grouped::on_lines))]
 pub fn write_table(out: &mut Output, table: &Table) -> Result<(), Refused>
-    ensures written { OnOk result (Writes (spell_table (table_view table.now)) out.old out.new) }
-    ensures printable { OnOk result (printable_table (table_view table.now) ≡ true) }
-    ensures refused { IfErr result (λ e. e ≢ Memory
-        → printable_table (table_view table.now) ≡ false) }
+    ensures { PrintedLines table_field_form (table_view table.now) result out.old out.new }
 {
     out.word("table")?;
     write_head(out, &table.id, &table.name, &table.exports)?;
@@ -240,7 +204,7 @@ impl PrintPart for Table<'_> {
 
     ghost grammar = { table };
 
-    ghost printing = { table_printing };
+    ghost printing = { printing_by table_field_form table_field_prints (λ v h. h) refl refl };
 
     fn write(&self, out: &mut Output) -> Result<(), Refused> {
         write_table(out, self)?;

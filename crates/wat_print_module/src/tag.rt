@@ -1,15 +1,13 @@
 //! Printing of tags.
 
-ghost use Rattle.std.specs.Prelude.{◌≡◌, ◌≢◌, OnOk, IfErr, true, false};
-ghost use Rattle.wat_fields.specs.Tag.{TagTy, tag_kind_view, tag_view, tag};
-ghost use Rattle.wat_print.specs.Before.{spell_use, printable_use};
-ghost use Rattle.wat_print.specs.Parts.{spell_option, if_some};
-ghost use Rattle.wat_print.specs.Text.{put};
-ghost use Rattle.wat_print.specs.declared.fault.Refused.TheVariants.{Memory};
-ghost use Rattle.wat_print_module.specs.FieldHead.{spell_inline_import, printable_inline_import};
-ghost use Rattle.wat_print_module.specs.FieldPrintings.{tag_printing};
-ghost use Rattle.wat_print_module.specs.Tag.{spell_tag, printable_tag};
+ghost use Rattle.std.specs.Prelude.{refl};
 ghost use Rattle.wat_types.specs.Tag.{tag_type_view};
+ghost use Rattle.wat_fields.specs.Tag.{TagTy, tag_kind_view, tag_view, tag};
+ghost use Rattle.wat_print.specs.Printed.{printing_by};
+ghost use Rattle.wat_print.specs.Prints.{Printed};
+ghost use Rattle.wat_print.specs.Use.{use_form};
+ghost use Rattle.wat_print_module.specs.Tag.{tag_import_form, tag_form};
+ghost use Rattle.wat_print_module.specs.Laws.Tag.{tag_prints};
 
 use crate::field_head::{write_head, write_inline_import};
 use crate::traits::PrintPart;
@@ -20,11 +18,7 @@ use wat_types::TagType;
 
 /// Writes the inline import, if the tag is imported.
 fn write_import(out: &mut Output, kind: &TagKind) -> Result<(), Refused>
-    ensures written { OnOk result (out.new ≡ put out.old
-        (spell_option spell_inline_import (tag_kind_view kind.now))) }
-    ensures printable { OnOk result
-        (if_some printable_inline_import (tag_kind_view kind.now) ≡ true) }
-    ensures refused { IfErr result (λ e. e ≡ Memory) }
+    ensures { Printed tag_import_form (tag_kind_view kind.now) result out.old out.new }
 {
     match kind {
         TagKind::Import(import) => write_inline_import(out, import),
@@ -34,10 +28,7 @@ fn write_import(out: &mut Output, kind: &TagKind) -> Result<(), Refused>
 
 /// Writes the type of a tag.
 fn write_tag_type(out: &mut Output, ty: &TagType) -> Result<(), Refused>
-    ensures written { OnOk result (out.new ≡ put out.old (spell_use (tag_type_view ty.now))) }
-    ensures printable { OnOk result (printable_use (tag_type_view ty.now) ≡ true) }
-    ensures refused { IfErr result (λ e. e ≢ Memory
-        → printable_use (tag_type_view ty.now) ≡ false) }
+    ensures { Printed use_form (tag_type_view ty.now) result out.old out.new }
 {
     match ty {
         TagType::Exception(ty) => write_use(out, ty),
@@ -48,9 +39,7 @@ fn write_tag_type(out: &mut Output, ty: &TagType) -> Result<(), Refused>
 /// import, and its type.
 #[tactic(auto, using(wat_print::specs::Laws::Written::put_both))]
 pub fn write_tag(out: &mut Output, tag: &Tag) -> Result<(), Refused>
-    ensures written { OnOk result (out.new ≡ put out.old (spell_tag (tag_view tag.now))) }
-    ensures printable { OnOk result (printable_tag (tag_view tag.now) ≡ true) }
-    ensures refused { IfErr result (λ e. e ≢ Memory → printable_tag (tag_view tag.now) ≡ false) }
+    ensures { Printed tag_form (tag_view tag.now) result out.old out.new }
 {
     out.word("tag")?;
     write_head(out, &tag.id, &tag.name, &tag.exports)?;
@@ -65,7 +54,7 @@ impl PrintPart for Tag<'_> {
 
     ghost grammar = { tag };
 
-    ghost printing = { tag_printing };
+    ghost printing = { printing_by tag_form tag_prints (λ v h. h) refl refl };
 
     #[tactic(auto, using(wat_print::specs::Laws::Written::puts_put))]
     fn write(&self, out: &mut Output) -> Result<(), Refused> {

@@ -109,15 +109,15 @@ fn add_fields(out: &mut String, alloc: Global) -> Result<(), Error> {
 /// The expected texts of all these.
 const REASONS: &str = "EmptyName: an identifier is empty
 PageSize: a page size has more than 32 bits
-Label: a label stands where none may stand
-Parents: a definition without `sub` is below others
-Alignment: an alignment is no power of two
-Ordering: an access has an ordering that its instruction can't have
-Float: a floating-point number has no text
-Hint: a hint has no instruction that it can stand before
+Label: an identifier or a name isn't allowed here
+Parents: a definition without `sub` has supertypes
+Alignment: an alignment isn't a power of two
+Ordering: an instruction can't have this memory ordering
+Float: no text is read as a floating-point number
+Hint: a branch hint has a wrong index, order or value
 Folded: no folded instruction has these instructions
-Section: a custom section has a form that no text is read as
-Table: a table has a form that no text is read as
+Section: no text is read as the custom section
+Table: no text is read as the table
 ";
 
 #[test]

@@ -5,7 +5,6 @@ use Rattle.std.specs.Str.{bytes_eq}
 use Rattle.std.proofs.Common.{refl, ap, subst, sym, ◌∙◌, append_assoc, inl, inr}
 use Rattle.std.proofs.lemmas.Bool.{and_parts}
 use Rattle.wat_lexer.specs.Token.{Tok, LParen, RParen, Keyword}
-use Rattle.wat_tokens.specs.Followed.{followed, blank}
 use Rattle.wat_tokens.specs.Groups.{paren, group, turn}
 use Rattle.wat_tokens.specs.Many.{many}
 use Rattle.wat_tokens.specs.ManySpells.{many_spells}
@@ -20,7 +19,7 @@ use Rattle.wat_print.specs.Form.{Test, any, Form, told_form, token_form, OfWord,
 use Rattle.wat_print.specs.Form.{flag_form, seq_follows, SeqFronts, seq_form, by, by_where, pick}
 use Rattle.wat_print.specs.Form.{else_follows, else_form, option_form, many_form, ParenFronts}
 use Rattle.wat_print.specs.Form.{paren_form, turn_form, after_form, group_form, only_where_form}
-use Rattle.wat_print.specs.Form.{behind_form, unwritten_form, followed_form, blank_form}
+use Rattle.wat_print.specs.Form.{behind_form, unwritten_form}
 use Rattle.wat_print.specs.Form.{filled_form, some_and}
 use Rattle.wat_print.specs.Parts.{spell_option, if_some, each, spell_flag}
 use Rattle.wat_print.specs.Prints.{Passes, Closes, Nests, Unparses, Prints, Must}
@@ -287,7 +286,7 @@ module _ {A B : Type 0} {form : Form A} {view : A → B} {g : Production B}
 
 -- ---- one of two
 
-else_parts : (e : Bool) (test f : Test) (r : List Tok)
+pub else_parts : (e : Bool) (test f : Test) (r : List Tok)
     → else_follows e test f r ≡ true → Passes e (λ t. not (test t)) r × (f r ≡ true)
 else_parts true test f r h = and_parts (not (test r)) (f r) h
 else_parts false test f r h = (tt, h)
@@ -343,11 +342,11 @@ module _ {A B : Type 0} {form : Form A} {view : A → B} {g : Production B}
       only = λ b c r a s. p.only b c r a (from b c r s);
     }
 
-passes_left : (a b : Bool) (test : Test) (r : List Tok) → Passes (a || b) test r → Passes a test r
+pub passes_left : (a b : Bool) (test : Test) (r : List Tok) → Passes (a || b) test r → Passes a test r
 passes_left true b test r e = e
 passes_left false b test r e = tt
 
-passes_right : (a b : Bool) (test : Test) (r : List Tok) → Passes (a || b) test r → Passes b test r
+pub passes_right : (a b : Bool) (test : Test) (r : List Tok) → Passes (a || b) test r → Passes b test r
 passes_right true b test r e = passes_of b test r e
 passes_right false b test r e = e
 
@@ -654,62 +653,4 @@ turn_prints = record {
   front = λ rest test f v r h i e. f r;
   here = λ v r h e. refl;
   only = λ v c r a s. (tt, refl, refl);
-}
-
--- ---- a second part that depends on the first
-
-module _ {A A' B : Type 0} {C : A → Type 0} {form : Form A} {view : A → A'} {g : Production A'}
-    (h : A' → Production B) (ends : Test) (p : Unparses form view g) (q : (a : A) → Form (C a))
-    (also : (a : A) → C a → B) (each_prints : (a : A) → Unparses (q a) (also a) (h (view a)))
-    (here_balanced : form.balanced ≡ true) (balanced : (a : A) → (q a).balanced ≡ true)
-    (filled : form.empty ≡ false)
-    (behind : (a : A) (v : C a) (r : List Tok) → (q a).ready v ≡ true
-    → form.follows ((q a).spell v ++ r) ≡ true)
-    (may_end : (a : A) (r : List Tok) → ends r ≡ true → (q a).follows r ≡ true)
-  where
-    followed_only : (w : B) (c r : List Tok) → each is_given c ≡ true
-        → (followed g h).spells w c r
-        → (v : (a : A) × C a) × (also v.0 v.1 ≡ w)
-        × (form.printable v.0 && (q v.0).printable v.1 ≡ true)
-    followed_only w c r a s =
-        let k = given_parts c s.1 s.2 s.3 a in
-        let x = p.only s.0 s.1 (s.2 ++ r) k.0 s.4 in
-        let t = subst (λ (b : A'). (h b).spells w s.2 r) (sym x.1) s.5 in
-        let y = (each_prints x.0).only w s.2 r k.1 t in
-        ((x.0, y.0), y.1, rw (x.2, y.2) refl)
-
-    pub followed_prints
-        : Unparses (followed_form ends form q) (λ v. also v.0 v.1) (followed g h)
-    followed_prints = record {
-      nests = λ v k. (let a = and_parts (form.ready v.0) ((q v.0).ready v.1) k in
-          well_formed_both (form.spell v.0) ((q v.0).spell v.1)
-          (subst (λ (b : Bool). Nests b (form.spell v.0)) here_balanced (p.nests v.0 a.0))
-          (subst (λ (b : Bool). Nests b ((q v.0).spell v.1)) (balanced v.0)
-          ((each_prints v.0).nests v.1 a.1)));
-      front = λ rest test f v r k i e. (
-          let a = and_parts (form.ready v.0) ((q v.0).ready v.1) k in
-          let x = (q v.0).spell v.1 ++ r in
-          subst (λ (l : List Tok). test l ≡ true)
-          (sym (append_assoc (form.spell v.0) ((q v.0).spell v.1) r))
-          (p.front any test f v.0 x a.0 refl
-          (subst (λ (b : Bool). Passes b test x) (sym filled) tt)));
-      here = λ v r k e. (
-          let a = and_parts (form.ready v.0) ((q v.0).ready v.1) k in
-          let x = (q v.0).spell v.1 in (
-            view v.0,
-            form.spell v.0,
-            x,
-            refl,
-            p.here v.0 (x ++ r) a.0 (behind v.0 v.1 r a.1),
-            (each_prints v.0).here v.1 r a.1 (may_end v.0 r e),
-          ));
-      only = followed_only;
-    }
-
-pub blank_prints : {A : Type 0} (a : A) → Unparses blank_form (λ (u : Unit {0}). a) (blank a)
-blank_prints a = record {
-  nests = λ v h. nothing;
-  front = λ rest test f v r h i e. e;
-  here = λ v r h e. (refl, refl);
-  only = λ v c r b s. (tt, sym s.1, refl);
 }

@@ -24,11 +24,11 @@ use Rattle.wat_print.specs.WellFormed.{is_name, is_given, WellFormed, nothing, n
 use Rattle.wat_print.specs.Laws.Bytes.{utf8_bytes}
 use Rattle.wat_print.specs.Laws.Form.{one_prints, option_prints, seq_prints, made_prints}
 use Rattle.wat_print.specs.Laws.Form.{whole_prints, whole_where, told_prints, only_where_prints}
-use Rattle.wat_print.specs.Laws.Form.{many_seen, respelled}
+use Rattle.wat_print.specs.Laws.Form.{many_seen, respelled, prints_only}
 use Rattle.wat_print.specs.Laws.Only.{OnlyPrintable, only_any, only_paren, only_seq, only_made}
 use Rattle.wat_print.specs.Laws.Parts.{Spells, well_formed_one, and_also, each_both}
 use Rattle.wat_print.specs.Laws.Quoted.{if_cases}
-use Rattle.wat_print.specs.Laws.Strings.{text_only}
+use Rattle.wat_print.specs.Laws.Strings.{text_prints}
 
 -- ---- labels
 
@@ -90,7 +90,7 @@ unfolding name_annotation
 name_only =
     only_paren (only_made (λ _. true) (λ v. v.1) is_utf8
     (only_seq (only_any (annotation_token (codes "name")))
-    text_only))
+    (prints_only text_prints)))
 
 pub id_prints : Prints id_form identifier
 id_prints =

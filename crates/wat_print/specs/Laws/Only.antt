@@ -1,6 +1,5 @@
 -- Laws: values that tokens of a text spell can be written, part by part.
 use Rattle.std.specs.Prelude.{◌≡◌, ◌≤◌, ℕ, Bool, true, ◌&&◌, List, [], ◌∷◌, ◌++◌, Option, Some}
-use Rattle.std.specs.Prelude.{None}
 use Rattle.std.specs.Str.{bytes_eq}
 use Rattle.std.proofs.Common.{refl, subst, inl, inr}
 use Rattle.std.proofs.lemmas.Bool.{and_parts, cond_both}
@@ -9,11 +8,11 @@ use Rattle.wat_tokens.specs.Groups.{paren, group}
 use Rattle.wat_tokens.specs.Many.{many}
 use Rattle.wat_tokens.specs.ManySpells.{many_spells}
 use Rattle.wat_tokens.specs.Parens.{NoParens}
-use Rattle.wat_tokens.specs.Parts.{one, seq, where_else, made_where, opt, word, after_word}
+use Rattle.wat_tokens.specs.Parts.{one, seq, where_else, made_where, word, after_word}
 use Rattle.wat_tokens.specs.Production.{Production}
 use Rattle.wat_tokens.specs.Tests.{look_up, word_in}
 use Rattle.wat_print.specs.WellFormed.{is_given}
-use Rattle.wat_print.specs.Parts.{each, if_some}
+use Rattle.wat_print.specs.Parts.{each}
 use Rattle.wat_print.specs.Laws.Parts.{each_front}
 
 -- each value that tokens of a text spell passes the test `printable`
@@ -86,16 +85,6 @@ pub only_where : {A : Type 0} {g h : Production A} {printable : A → Bool} (tes
     → OnlyPrintable (where_else test g h) printable
 only_where test m n = record { holds = where_holds test m n }
 
-opt_holds : {A : Type 0} {g : Production A} {printable : A → Bool} (begins : List Tok → Bool)
-    → OnlyPrintable g printable → (o : Option A) (c r : List Tok) → each is_given c ≡ true
-    → (opt begins g).spells o c r → if_some printable o ≡ true
-opt_holds begins m (Some v) c r a s = m.holds v c r a s.1
-opt_holds begins m None c r a s = refl
-
-pub only_opt : {A : Type 0} {g : Production A} {printable : A → Bool} (begins : List Tok → Bool)
-    → OnlyPrintable g printable → OnlyPrintable (opt begins g) (if_some printable)
-only_opt begins m = record { holds = opt_holds begins m }
-
 pub only_paren : {A : Type 0} {g : Production A} {printable : A → Bool} → OnlyPrintable g printable
     → OnlyPrintable (paren g) printable
 only_paren m =
@@ -143,8 +132,3 @@ pub only_after : {A : Type 0} {g : Production A} {printable : A → Bool} (w : L
     → OnlyPrintable (after_word w g) printable
 only_after {printable = printable} w m =
     only_made (λ _. true) (λ v. v.1) printable (only_seq (only_any (word w)) m)
-
-pub only_group : {A : Type 0} {g : Production A} {printable : A → Bool} (w : List ℕ)
-    → OnlyPrintable g printable
-    → OnlyPrintable (group w g) printable
-only_group w m = only_paren (only_after w m)

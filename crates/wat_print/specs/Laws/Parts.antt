@@ -11,20 +11,15 @@ use Rattle.wat_tokens.specs.Parts.{word, flag}
 use Rattle.wat_tokens.specs.Joined.{all_of}
 use Rattle.wat_tokens.specs.ManySpells.{many_spells}
 use Rattle.wat_tokens.specs.PartSpells.{opt_spells}
-use Rattle.wat_tokens.specs.Groups.{paren, group}
+use Rattle.wat_tokens.specs.Groups.{group}
 use Rattle.wat_tokens.specs.Spelled.{in_parens}
 use Rattle.wat_print.specs.WellFormed.{is_printable, is_keyword, WellFormed, nothing, token}
 use Rattle.wat_print.specs.WellFormed as well_formed
-use Rattle.wat_print.specs.Parts.{grouped, spell_flag, spell_option, if_some, each}
+use Rattle.wat_print.specs.Parts.{grouped, spell_flag, spell_option, each}
 
 -- the tokens spell the value before any rest
 abbrev pub Spells : {A : Type 0} → Production A → A → List Tok → Type 0
 Spells g v c = (r : List Tok) → g.spells v c r
-
-pub paren_here : {A : Type 0} (g : Production A) (v : A) (d r : List Tok)
-    → g.spells v d (RParen ∷ r)
-    → (paren g).spells v (in_parens d) r
-paren_here g v d r s = (d, refl, s)
 
 pub word_here : (w : List ℕ) → bytes_eq w w ≡ true → Spells (word w) tt (Keyword w ∷ [])
 word_here w e r = (Keyword w, refl, rw e refl)
@@ -115,10 +110,6 @@ pub well_formed_word : (w : List ℕ) (d : List Tok) → is_keyword w ≡ true �
     → WellFormed (Keyword w ∷ d)
 well_formed_word w d h n = token (Keyword w) d h n
 
-pub well_formed_group : (w : List ℕ) (d : List Tok) → is_keyword w ≡ true → WellFormed d
-    → WellFormed (grouped w d)
-well_formed_group w d h n = well_formed.group (Keyword w ∷ d) [] (token (Keyword w) d h n) nothing
-
 pub well_formed_paren : (d : List Tok) → WellFormed d → WellFormed (in_parens d)
 well_formed_paren d n = well_formed.group d [] n nothing
 
@@ -129,12 +120,6 @@ well_formed_each spell ok n [] o = nothing
 well_formed_each spell ok n (v ∷ vs) o =
     let p = and_parts (ok v) (each ok vs) o in
     well_formed_both (spell v) (flat_map spell vs) (n v p.0) (well_formed_each spell ok n vs p.1)
-
-pub well_formed_option : {A : Type 0} (spell : A → List Tok) (printable : A → Bool) (o : Option A)
-    → ((v : A) → printable v ≡ true → WellFormed (spell v)) → if_some printable o ≡ true
-    → WellFormed (spell_option spell o)
-well_formed_option spell printable (Some v) n f = n v f
-well_formed_option spell printable None n f = nothing
 
 pub well_formed_flag : (w : List ℕ) (b : Bool) → is_keyword w ≡ true → WellFormed (spell_flag w b)
 well_formed_flag w true h = well_formed_one (Keyword w) h

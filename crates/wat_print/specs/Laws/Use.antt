@@ -1,12 +1,12 @@
 -- Laws: type uses are read again.
-use Rattle.std.specs.Prelude.{◌≡◌, true, ◌&&◌, List, [], ◌∷◌, ◌++◌, flat_map, codes}
+use Rattle.std.specs.Prelude.{◌≡◌, true, false, ◌&&◌, List, [], ◌∷◌, ◌++◌, flat_map, codes}
 use Rattle.std.proofs.Common.{rules, refl}
 use Rattle.wat_lexer.specs.Token.{Tok}
 use Rattle.wat_tokens.specs.Production.{Production}
 use Rattle.wat_types.specs.Function.{function_groups, function_type}
 use Rattle.wat_types.specs.FunctionNoNames.{function_type_no_names}
 use Rattle.wat_types.specs.FunctionSpells.{FunctionSpells}
-use Rattle.wat_types.specs.Group.{Group, param, result, FuncTy, begins_func}
+use Rattle.wat_types.specs.Group.{Group, param, result, FuncTy, begins_func, group_follows}
 use Rattle.wat_types.specs.Laws.FunctionSpells.{function_to, function_from}
 use Rattle.wat_types.specs.Use.{UseTy, use_of, type_follows, type_use}
 use Rattle.wat_print.specs.Form.{Test, any, Form}
@@ -20,6 +20,10 @@ use Rattle.wat_print.specs.Laws.Form.{whole_prints, whole_where, restated_prints
 use Rattle.wat_print.specs.Laws.Function.{AreGroupsOf, groups_are, groups_prints, groups_whole}
 use Rattle.wat_print.specs.Laws.Function.{groups_covers, groups_are_ready, all_ready, unnamed_by}
 use Rattle.wat_print.specs.Laws.Reference.{index_prints}
+
+-- a rest whose first tokens don't continue a type use
+abbrev pub EndsUse : List Tok → Type 0
+EndsUse r = (type_follows r ≡ false) × (begins_func r ≡ false) × (group_follows r ≡ false)
 
 -- ---- inline types
 

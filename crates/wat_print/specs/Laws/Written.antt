@@ -175,13 +175,6 @@ blanks_turn x y z times i lt e h =
     ap (λ (l : List ℕ). l ++ r) e ∙ append_assoc x (32 ∷ 32 ∷ []) r
     ∙ ap (λ (l : List ℕ). x ++ l) (sym (blanks_step times i lt)) ∙ h
 
--- a line isn't broken after `(`
-pub tight_stays : (n : ℕ) (p : Page) → p.tight ≡ true → broken n p ≡ p
-tight_stays n p h =
-    cond_both (p.lines && not p.tight) _ p (λ (q : Page). q ≡ p)
-    (λ e. (let a = (and_parts p.lines (not p.tight) e).1 in
-    let b : not true ≡ true = subst (λ (k : Bool). not k ≡ true) h a in absurd cc)) (λ e. refl)
-
 broken_to : (n : ℕ) (p q : Page) → p.lines ≡ true → p.tight ≡ false
     → q ≡ record { bytes = p.bytes ++ (10 ∷ blanks n); tight = true; lines = p.lines }
     → q ≡ broken n p

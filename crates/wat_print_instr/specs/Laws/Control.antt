@@ -28,7 +28,7 @@ use Rattle.wat_print.specs.Form.{any}
 use Rattle.wat_print.specs.Label.{by_itself}
 use Rattle.wat_print.specs.Function.{vals_form}
 use Rattle.wat_print.specs.Prints.{Prints}
-use Rattle.wat_print.specs.Laws.Before.{EndsUse}
+use Rattle.wat_print.specs.Laws.Use.{EndsUse}
 use Rattle.wat_print.specs.Laws.Form.{word_prints, seq_prints, made_prints, whole_prints}
 use Rattle.wat_print.specs.Laws.Form.{whole_where, respelled, else_prints, option_prints}
 use Rattle.wat_print.specs.Laws.Form.{many_prints, paren_prints, after_prints, group_prints}

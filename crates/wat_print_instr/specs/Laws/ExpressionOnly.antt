@@ -192,12 +192,6 @@ before_if : (p : Option ℕ) (i : Instr) (b : (v : ℕ) → p ≡ Some v → v <
 before_if (Some v) i b h = (b v refl, h)
 before_if None i b h = tt
 
-end_printable : printable_step (step_of None end_instr) ≡ true
-end_printable = refl
-
-else_printable : printable_step (step_of None else_instr) ≡ true
-else_printable = refl
-
 all_printable : (xs ys : List HintedInstr) → each printable_step xs ≡ true
     → each printable_step ys ≡ true
     → each printable_step (xs ++ ys) ≡ true

@@ -15,16 +15,13 @@ use Rattle.wat_lexer.specs.Token.{Tok, LParen, Integer}
 use Rattle.wat_lexer.specs.declared.number.Sign.{Sign}
 use Rattle.wat_lexer.specs.declared.number.Sign.TheVariants.{Plus, Minus}
 use Rattle.wat_tokens.specs.Integers.{signed, signed_of, unsigned, unsigned_of}
-use Rattle.wat_print.specs.Before.{spell_number}
 use Rattle.wat_print.specs.Text.{all_are}
 use Rattle.wat_print.specs.Limits.{OfIntegers}
 use Rattle.wat_print.specs.Prints.{Prints}
-use Rattle.wat_print.specs.WellFormed.{is_printable, is_given, WellFormed}
+use Rattle.wat_print.specs.WellFormed.{is_printable, is_given}
 use Rattle.wat_print.specs.Laws.Form.{one_prints}
 use Rattle.wat_print.specs.Laws.Numbers.{magnitude_decimal, decimal_printable, no_sign}
 use Rattle.wat_print.specs.Laws.Numbers.{digits_idchars, unsigned_decimal, unsigned_fits}
-use Rattle.wat_print.specs.Laws.Only.{OnlyPrintable, only_one}
-use Rattle.wat_print.specs.Laws.Parts.{Spells, well_formed_one}
 use Rattle.wat_print_instr.specs.Numbers.{Halves, is_signed, signed_form, is_unsigned}
 use Rattle.wat_print_instr.specs.Numbers.{unsigned_form}
 
@@ -165,18 +162,3 @@ number_text n lt = unsigned_decimal 64 n lt (omega arith)
 
 pub number_chars : (n : ℕ) → n < 2 ^ 64 → all_are is_idchar (decimal n) ≡ true
 number_chars n lt = digits_idchars (decimal n) (decimal_is_IsNumeral n lt).0.1
-
--- ---- the former names, for crates whose printings aren't forms
-
-pub unsigned_here : (bits n : ℕ) → 2 ^ bits ≤ 2 ^ 64 → is_unsigned bits n ≡ true
-    → Spells (unsigned bits) n (spell_number n)
-unsigned_here bits n le h r = (Integer (decimal n), refl, unsigned_text bits n le h)
-
-pub unsigned_well_formed : (bits n : ℕ) → 2 ^ bits ≤ 2 ^ 64 → is_unsigned bits n ≡ true
-    → WellFormed (spell_number n)
-unsigned_well_formed bits n le h =
-    well_formed_one (Integer (decimal n)) (unsigned_printable bits n le h)
-
-pub unsigned_only : (bits : ℕ) → 1 ≤ 2 ^ bits → OnlyPrintable (unsigned bits) (is_unsigned bits)
-unsigned_only bits p =
-    only_one (unsigned_of bits) (refl, refl) (is_unsigned bits) (unsigned_given bits p)

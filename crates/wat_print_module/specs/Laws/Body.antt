@@ -1,22 +1,48 @@
--- Laws: an expression may end at the end of a field, and doesn't begin as a local does.
-use Rattle.std.specs.Prelude.{◌≡◌, true, false, List, ◌++◌, codes}
+-- Laws: the first tokens of expressions, and the tests that stand before the body of a function.
+use Rattle.std.specs.Prelude.{◌≡◌, true, not, List, ◌∷◌, codes}
 use Rattle.std.proofs.Common.{refl}
-use Rattle.wat_lexer.specs.Token.{Tok}
-use Rattle.wat_tokens.specs.Tests.{begins_word, second}
-use Rattle.wat_expr.specs.Expression.{Expr}
-use Rattle.wat_print_instr.specs.ExpressionForm.{spell_expression, printable_expression}
-use Rattle.wat_print_instr.specs.Laws.Expression.{EndsExpression, NoMnemonic, expression_second}
+use Rattle.std.proofs.lemmas.Bool.{not-false, not_from_true}
+use Rattle.std.proofs.lemmas.Bool.{and_parts}
+use Rattle.wat_lexer.specs.Token.{Tok, LParen, Keyword}
+use Rattle.wat_types.specs.Group.{begins_func}
+use Rattle.wat_mnemonics.specs.Ops.{op_word}
+use Rattle.wat_mnemonics.specs.declared.op.Op.{Op}
+use Rattle.wat_instr.specs.Laws.Sees.{fails_at_end}
+use Rattle.wat_expr.specs.Items.{hint_name}
+use Rattle.wat_fields.specs.Local.{local_follows}
+use Rattle.wat_print.specs.Form.{Test, any}
+use Rattle.wat_print.specs.Use.{use_form}
+use Rattle.wat_print.specs.Laws.Form.{not_true}
+use Rattle.wat_print_instr.specs.Laws.Expression.{NoMnemonic, expression_first}
+use Rattle.wat_print_instr.specs.Laws.Expression.{expression_second, expression_no_type}
 use Rattle.wat_print_instr.specs.Laws.Expression.{word_unsought}
-use Rattle.wat_print_module.specs.Laws.FieldHead.{EndsField}
+use Rattle.wat_print_module.specs.Expression.{ends_expression, expression_form}
+use Rattle.wat_print_module.specs.Local.{locals_form}
+use Rattle.wat_print_module.specs.Laws.Expression.{end_of}
 
-pub field_ends_expression : (r : List Tok) → EndsField r → EndsExpression r
-field_ends_expression r e =
-    (e.0, (e.1 (codes "type"), e.1 (codes "param"), e.1 (codes "result")))
+-- a test passes on expressions if it passes on each mnemonic and on each hint
+pub expression_front : (test : Test)
+    → ((o : Op) (y : List Tok) → test (Keyword (op_word o) ∷ y) ≡ true)
+    → ((y : List Tok) → test (LParen ∷ hint_name ∷ y) ≡ true) → expression_form.Fronts any test
+expression_front test f g e r h i k =
+    not-false (test _)
+    (expression_first (λ t. not (test t)) (λ o y. (not_from_true _ (f o y)))
+    (λ y. (not_from_true _ (g y))) e r (not_from_true (test r) k))
 
 no_local : NoMnemonic (codes "local")
-no_local h = (word_unsought h).no_local
+no_local o = (word_unsought o).no_local
 
-pub expression_no_local : (e : Expr) (r : List Tok) → printable_expression e ≡ true → EndsField r
-    → second (begins_word (codes "local")) (spell_expression e ++ r) ≡ false
-expression_no_local e r f k =
-    expression_second (codes "local") refl no_local e r f k.0 (k.1 (codes "local"))
+-- no expression continues locals
+pub behind_locals : expression_form.Fronts ends_expression locals_form.follows
+behind_locals e r f k h =
+    rw (expression_second (codes "local") refl no_local e r f (end_of r k).0
+    (not_true (local_follows r) (and_parts (not (local_follows r)) _ h).0)) refl
+
+-- no expression continues a type use
+pub behind_use : expression_form.Fronts ends_expression use_form.follows
+behind_use e r f k h =
+    let a = end_of r k in
+    let n = expression_no_type e r f a in
+    let b = expression_first begins_func (λ o y. refl) (λ y. refl) e r
+    (fails_at_end begins_func refl (λ x. refl) r a.0) in
+    rw (n.0, b, n.1, n.2) refl

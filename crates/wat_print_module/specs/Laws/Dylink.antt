@@ -9,6 +9,7 @@ use Rattle.std.proofs.lemmas.Bool.{and_parts, lt-ltb, ltb-true}
 use Rattle.std.proofs.lemmas.Grind.{flat_map-append}
 use Rattle.std.proofs.lemmas.Nat.{or_lt}
 use Rattle.wat_tokens.specs.Groups.{paren}
+use Rattle.wat_tokens.specs.Integers.{unsigned}
 use Rattle.wat_tokens.specs.Tests.{begins_group, begins_word, begins_integer, second, more}
 use Rattle.wat_links.specs.CutForm.{entries}
 use Rattle.wat_links.specs.Cutting.{cut_subsections, dylink}
@@ -36,33 +37,39 @@ use Rattle.wat_print_module.specs.Dylink.{printable_lone, is_lone, lone_form, en
 use Rattle.wat_print_module.specs.Dylink.{entry_form}
 use Rattle.wat_print_module.specs.Dylink.{entries_form, is_filled, is_apart, are_cut}
 use Rattle.wat_print_module.specs.Dylink.{subsections_form, dylink_form}
-use Rattle.wat_print_module.specs.Strings.{is_u32, u32_form}
-use Rattle.wat_print_module.specs.Laws.Strings.{text_prints, u32_prints, Annotates, annotates}
-use Rattle.wat_print_module.specs.Laws.Strings.{annotation_prints, dylink_annotation}
+use Rattle.wat_print_instr.specs.Numbers.{is_unsigned, unsigned_form}
+use Rattle.wat_print.specs.Laws.Strings.{text_prints}
+use Rattle.wat_print_instr.specs.Laws.Numbers.{unsigned_prints}
+use Rattle.wat_print_module.specs.Laws.Annotation.{Inside, annotated, grouped_prints}
+use Rattle.wat_print_module.specs.Laws.Annotation.{dylink_annotation}
 
 -- ---- flags
 
-flag_only : OnlyPrintable flag_bits is_u32
+number_prints : Prints (unsigned_form 32) (unsigned 32)
+number_prints = unsigned_prints 32 (lit≤ tt) (lit≤ tt)
+
+flag_only : OnlyPrintable flag_bits (is_unsigned 32)
 unfolding flag_bits
 flag_only =
-    only_where begins_integer (prints_only u32_prints)
-    (only_made (λ _. true) (λ f. f.0) is_u32 (only_word_in flag_words (λ f. is_u32 f.0) refl))
+    only_where begins_integer (prints_only number_prints)
+    (only_made (λ _. true) (λ f. f.0) (is_unsigned 32)
+    (only_word_in flag_words (λ f. is_unsigned 32 f.0) refl))
 
-flag_prints : Prints u32_form flag_bits
+flag_prints : Prints (unsigned_form 32) flag_bits
 unfolding flag_bits
 flag_prints = record {
-  nests = u32_prints.nests;
-  front = u32_prints.front;
-  here = λ n r h e. inl (refl, u32_prints.here n r h e);
+  nests = number_prints.nests;
+  front = number_prints.front;
+  here = λ n r h e. inl (refl, number_prints.here n r h e);
   only = λ n c r a s. (n, refl, flag_only.holds n c r a s);
 }
 
 -- the bitwise or of numbers of 32 bits has 32 bits
-joined_printable : (ns : List ℕ) (n : ℕ) → is_u32 n ≡ true → each (is_u32) ns ≡ true
-    → is_u32 (fold bit_or n ns) ≡ true
+joined_printable : (ns : List ℕ) (n : ℕ) → is_unsigned 32 n ≡ true
+    → each (is_unsigned 32) ns ≡ true → is_unsigned 32 (fold bit_or n ns) ≡ true
 joined_printable [] n f g = f
 joined_printable (m ∷ ns) n f g =
-    let a = and_parts (is_u32 m) (each (is_u32) ns) g in
+    let a = and_parts (is_unsigned 32 m) (each (is_unsigned 32) ns) g in
     let lt = or_lt 32 n m (ltb-true n (2 ^ 32) f) (ltb-true m (2 ^ 32) a.0) in
     joined_printable ns (bit_or n m) (lt-ltb (bit_or n m) (2 ^ 32) lt) a.1
 
@@ -70,7 +77,7 @@ flags_prints : Prints flags_form symbol_flags
 unfolding symbol_flags flag_list
 flags_prints =
     whole_where (made_prints (many_prints more flag_prints flag_bits_consumes (search rules)
-    (search rules)) (λ ns. fold bit_or 0 ns)) one_number is_u32 (λ n h. or_zero_l n)
+    (search rules)) (λ ns. fold bit_or 0 ns)) one_number (is_unsigned 32) (λ n h. or_zero_l n)
     (λ n h. rw h refl) (λ ns h. joined_printable ns 0 refl h)
 
 -- ---- entries
@@ -93,7 +100,7 @@ sizes_prints : (w : List ℕ) → is_keyword w ≡ true → bytes_eq w w ≡ tru
 unfolding sizes
 sizes_prints w k e =
     whole_prints (made_prints (filled_prints (second (begins_word w))
-    (group_prints (seq_prints u32_prints u32_prints (search rules)) w k e) (λ y h. e))
+    (group_prints (seq_prints number_prints number_prints (search rules)) w k e) (λ y h. e))
     (λ o. unwrap_or o no_size)) Some (λ v h. refl) (λ v h. h) (λ o h. grind arith)
 
 names_prints : (w : List ℕ) → is_keyword w ≡ true → bytes_eq w w ≡ true
@@ -213,9 +220,9 @@ cut_prints =
       );
     }
 
-pub dylink_reads : Annotates dylink_form dylink
+pub dylink_inside : Inside dylink_form (λ v. v) dylink
 unfolding dylink
-dylink_reads = annotates cut_prints refl (codes "dylink.0") dylink_annotation refl refl
+dylink_inside = annotated cut_prints refl (codes "dylink.0") dylink_annotation refl refl
 
 pub dylink_prints : Prints (paren_form dylink_form) (paren dylink)
-dylink_prints = annotation_prints dylink_reads refl
+dylink_prints = grouped_prints dylink_inside refl

@@ -1,13 +1,9 @@
--- Laws: round trips of expressions in groups of a word. The expression of a folded instruction can
--- be written.
-use Rattle.std.specs.Prelude.{◌≡◌, ℕ, ◌+◌, Bool, true, false, ◌&&◌, List, []}
-use Rattle.std.specs.Prelude.{◌∷◌, ◌++◌, Option, Some, None, option_map, codes}
-use Rattle.std.specs.Str.{bytes_eq}
+-- Laws: the expression of a folded instruction can be written.
+use Rattle.std.specs.Prelude.{◌≡◌, ℕ, ◌+◌, true, ◌&&◌, List, []}
+use Rattle.std.specs.Prelude.{◌∷◌, ◌++◌, Option, Some, None, option_map}
 use Rattle.std.proofs.Common.{refl, subst, sym}
 use Rattle.std.proofs.lemmas.Bool.{and_parts}
-use Rattle.wat_lexer.specs.Token.{Tok, LParen, RParen, Keyword}
-use Rattle.wat_tokens.specs.Groups.{group}
-use Rattle.wat_tokens.specs.Tests.{begins_word, ends}
+use Rattle.wat_lexer.specs.Token.{Tok}
 use Rattle.wat_instr.specs.Instruction.{Instr}
 use Rattle.wat_expr.specs.Expression.{Expr}
 use Rattle.wat_expr.specs.ExpressionProduction.{expression}
@@ -16,53 +12,15 @@ use Rattle.wat_expr.specs.Folded.{folded_spells}
 use Rattle.wat_expr.specs.FoldedProduction.{folded_instruction}
 use Rattle.wat_fields.specs.Offset.{head_behind}
 use Rattle.wat_print.specs.WellFormed.{is_given}
-use Rattle.wat_print.specs.Parts.{grouped, each}
+use Rattle.wat_print.specs.Parts.{each}
 use Rattle.wat_print.specs.Laws.Only.{OnlyPrintable}
-use Rattle.wat_print.specs.Laws.Parts.{group_here, each_front}
+use Rattle.wat_print.specs.Laws.Parts.{each_front}
 use Rattle.wat_print_instr.specs.ExpressionForm.{HintedInstr, step_of, printable_step, steps_from}
-use Rattle.wat_print_instr.specs.ExpressionForm.{hint_for, hints_after, spell_expression}
+use Rattle.wat_print_instr.specs.ExpressionForm.{hint_for, hints_after}
 use Rattle.wat_print_instr.specs.ExpressionForm.{printable_expression}
 use Rattle.wat_print_instr.specs.InstructionForm.{passes, printable_instruction}
-use Rattle.wat_print_instr.specs.Laws.Expression.{expression_closed, next_step}
+use Rattle.wat_print_instr.specs.Laws.Expression.{next_step}
 use Rattle.wat_print_instr.specs.Laws.FoldedOnly.{groups_printable}
-
--- ---- an expression in a group of a word
-
--- the first token isn't a word
-abbrev pub no_word : List Tok → Bool
-no_word (Keyword k ∷ r) = false
-no_word _ = true
-
-pub not_a_word : (w : List ℕ) (r : List Tok) → no_word r ≡ true → begins_word w r ≡ false
-not_a_word w [] e = refl
-not_a_word w (Keyword k ∷ r) e = absurd cc
-not_a_word w (LParen ∷ r) e = refl
-not_a_word w (_ ∷ r) e = refl
-
-pub end_no_word : (r : List Tok) → ends r ≡ true → no_word r ≡ true
-end_no_word [] e = refl
-end_no_word (RParen ∷ r) e = refl
-end_no_word (_ ∷ r) e = absurd cc
-
--- the first token is none of the words `type`, `param` and `result`
-abbrev pub NoTypeFirst : List Tok → Type 0
-NoTypeFirst r =
-    (begins_word (codes "type") r ≡ false) × (begins_word (codes "param") r ≡ false)
-    × (begins_word (codes "result") r ≡ false)
-
-pub no_type_first : (r : List Tok) → no_word r ≡ true → NoTypeFirst r
-no_type_first r e = (
-  not_a_word (codes "type") r e,
-  not_a_word (codes "param") r e,
-  not_a_word (codes "result") r e,
-)
-
-pub expression_grouped : (w : List ℕ) (e : Expr) (r : List Tok) → bytes_eq w w ≡ true
-    → printable_expression e ≡ true → NoTypeFirst r
-    → (group w expression).spells e (grouped w (spell_expression e)) r
-expression_grouped w e r b f n =
-    group_here w expression e (spell_expression e) r b
-    (expression_closed e (RParen ∷ r) f (refl, n))
 
 -- ---- steps without hints
 

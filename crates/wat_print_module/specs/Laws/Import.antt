@@ -24,7 +24,7 @@ use Rattle.wat_print_module.specs.Import.{shared_form, sharing_form, items_form}
 use Rattle.wat_print_module.specs.Import.{imports_parts, imports_form}
 use Rattle.wat_print_module.specs.Item.{printable_sig}
 use Rattle.wat_print_module.specs.Laws.Item.{sig_prints}
-use Rattle.wat_print_module.specs.Laws.Strings.{text_prints}
+use Rattle.wat_print.specs.Laws.Strings.{text_prints}
 
 -- ---- items
 

@@ -27,8 +27,9 @@ use Rattle.wat_print.specs.Laws.Form.{paren_prints}
 use Rattle.wat_print_module.specs.Producers.{ProducedTy, versioned_form, produced_form, field_form}
 use Rattle.wat_print_module.specs.Producers.{field_of_word, fields_behind, printable_in_turn}
 use Rattle.wat_print_module.specs.Producers.{printable_producers, fields_form, producers_form}
-use Rattle.wat_print_module.specs.Laws.Strings.{text_prints, Annotates, annotates}
-use Rattle.wat_print_module.specs.Laws.Strings.{annotation_prints, producers_annotation}
+use Rattle.wat_print.specs.Laws.Strings.{text_prints}
+use Rattle.wat_print_module.specs.Laws.Annotation.{Inside, annotated, grouped_prints}
+use Rattle.wat_print_module.specs.Laws.Annotation.{producers_annotation}
 
 -- ---- the words of fields
 
@@ -342,13 +343,13 @@ fields_prints =
       ));
     }
 
-pub producers_reads : Annotates producers_form producers
+pub producers_inside : Inside producers_form (λ v. v) producers
 unfolding producers
-producers_reads =
-    annotates fields_prints refl (codes "producers") producers_annotation refl refl
+producers_inside =
+    annotated fields_prints refl (codes "producers") producers_annotation refl refl
 
 pub producers_prints : Prints (paren_form producers_form) (paren producers)
-producers_prints = annotation_prints producers_reads refl
+producers_prints = grouped_prints producers_inside refl
 
 -- ---- the three words in turn
 

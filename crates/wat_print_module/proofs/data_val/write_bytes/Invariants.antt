@@ -1,9 +1,7 @@
-use Rattle.std.proofs.Common.{take}
-use Rattle.wat_print.specs.Before.{spell_number}
-use Rattle.wat_print.specs.WellFormed.{is_byte}
-use Rattle.wat_print.specs.Parts.{Wrote}
+use Rattle.std.proofs.Common.{drop}
+use Rattle.wat_print.specs.Prints.{Left}
+use Rattle.wat_print_module.specs.DataVal.{byte_form}
 use Rattle.wat_print_module.proofs.data_val.write_bytes.Given as goal
 
 abbrev pub invariant-loop-byte : goal.invariant-loop-byte
-invariant-loop-byte l =
-    Wrote (λ b. b) spell_number is_byte (take l.byte-index l.bytes) l.fn.out l.out
+invariant-loop-byte l = Left byte_form (drop l.byte-index l.bytes) l.bytes l.fn.out l.out

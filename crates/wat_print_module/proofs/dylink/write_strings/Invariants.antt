@@ -1,7 +1,7 @@
 use Rattle.std.proofs.Common.{drop}
 use Rattle.std.specs.Prelude.{map}
 use Rattle.wat_print.specs.Prints.{Left}
-use Rattle.wat_print_module.specs.Strings.{text_form}
+use Rattle.wat_print.specs.Strings.{text_form}
 use Rattle.wat_print_module.proofs.dylink.write_strings.Given as goal
 
 abbrev pub invariant-loop-name : goal.invariant-loop-name

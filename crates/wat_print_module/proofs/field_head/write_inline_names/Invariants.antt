@@ -1,9 +1,10 @@
-use Rattle.std.proofs.Common.{take}
-use Rattle.std.specs.Str.{is_utf8}
-use Rattle.wat_print.specs.Parts.{Wrote}
-use Rattle.wat_print_module.specs.FieldHead.{spell_inline_name}
+use Rattle.std.proofs.Common.{drop}
+use Rattle.std.specs.Prelude.{map}
+use Rattle.wat_print.specs.Prints.{Left}
+use Rattle.wat_print_module.specs.FieldHead.{inline_name_form}
 use Rattle.wat_print_module.proofs.field_head.write_inline_names.Given as goal
 
 abbrev pub invariant-loop-name : goal.invariant-loop-name
 invariant-loop-name l =
-    Wrote (λ n. n.now) spell_inline_name is_utf8 (take l.name-index l.names) l.fn.out l.out
+    Left inline_name_form (map (λ n. n.now) (drop l.name-index l.names))
+    (map (λ n. n.now) l.names) l.fn.out l.out

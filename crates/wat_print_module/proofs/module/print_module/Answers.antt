@@ -3,9 +3,10 @@ use Rattle.wat_tokens.specs.Groups.{paren}
 use Rattle.wat_core.specs.Module.{module_view, module_}
 use Rattle.wat_print.specs.Printed.{may_break, NoneSpells}
 use Rattle.wat_print.specs.declared.fault.Refused.TheVariants.{Memory}
+use Rattle.wat_print.specs.Laws.Form.{prints_only}
 use Rattle.wat_print.specs.Laws.Printed.{on_one_line, unspelled}
-use Rattle.wat_print_module.specs.Module.{spell_module_group, printable_module, NonePart}
-use Rattle.wat_print_module.specs.Laws.Module.{module_reads_back, module_group_only}
+use Rattle.wat_print_module.specs.Module.{spell_module_group, module_form, NonePart}
+use Rattle.wat_print_module.specs.Laws.Module.{module_reads_back, module_group_prints}
 use Rattle.wat_print_module.specs.Laws.Module.{part_unprintable, part_none}
 use Rattle.wat_print_module.proofs.module.print_module.Goals as goal
 
@@ -28,8 +29,8 @@ returns-in_err-write_module-clause-refused c =
     let v = module_view c.args.value.now in
     let e = c.in_err-write_module in
     let h : e.field-0.0.reason ≢ Memory → NoneSpells (paren module_) v =
-    λ n. unspelled (paren module_) v (printable_module v) (part_unprintable v e.field-0.0.field
-    (e.ensures.refused n)) (module_group_only.holds v) in
+    λ n. unspelled (paren module_) v (module_form.printable v) (part_unprintable v e.field-0.0.field
+    (e.ensures.refused n)) ((prints_only module_group_prints).holds v) in
     search (rules, h)
 
 pub returns-in_err-write_module-clause-field : goal.returns-in_err-write_module-clause-field

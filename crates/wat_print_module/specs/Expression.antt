@@ -1,0 +1,17 @@
+-- How expressions are written in fields.
+use Rattle.std.specs.Prelude.{not, ◌&&◌, codes}
+use Rattle.wat_tokens.specs.Tests.{begins_word, ends, second}
+use Rattle.wat_expr.specs.Expression.{Expr}
+use Rattle.wat_print.specs.Form.{Test, Form}
+use Rattle.wat_print_instr.specs.ExpressionForm.{spell_expression, printable_expression}
+use Rattle.wat_print_instr.specs.Form.{plain_form}
+
+-- nothing, or `)` without `type`, `param` and `result` after it
+abbrev pub ends_expression : Test
+ends_expression r =
+    ends r && (not (second (begins_word (codes "type")) r)
+    && (not (second (begins_word (codes "param")) r)
+    && not (second (begins_word (codes "result")) r)))
+
+abbrev pub expression_form : Form Expr
+expression_form = plain_form spell_expression printable_expression ends_expression
