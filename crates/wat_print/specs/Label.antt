@@ -1,41 +1,27 @@
 -- How labels are written, and lists of parts with optional labels: parameters and fields.
 use Rattle.std.specs.Prelude.{◌≡◌, ℕ, Bool, true, false, Option, not, ◌&&◌, if◌then◌else◌, List, []}
-use Rattle.std.specs.Prelude.{◌∷◌, codes, map}
-use Rattle.std.specs.Str.{is_utf8}
-use Rattle.wat_lexer.specs.Token.{Tok, LParen, Id, Annotation, String}
-use Rattle.wat_tokens.specs.Spelled.{in_parens}
-use Rattle.wat_types.specs.Label.{Label, labelled}
+use Rattle.std.specs.Prelude.{◌∷◌, codes, map, ◌⊎◌, flat_map, ◌||◌}
+use Rattle.wat_lexer.specs.Token.{Tok, Id}
+use Rattle.wat_types.specs.Label.{Label, labelled, begins_label}
 use Rattle.wat_tokens.specs.NameAnnotation.{begins_name}
 use Rattle.wat_tokens.specs.Tests.{begins_id, more}
-use Rattle.wat_types.specs.Label.{begins_label}
-use Rattle.std.specs.Prelude.{◌⊎◌, flat_map, ◌||◌}
 use Rattle.std.proofs.Common.{inl, inr}
-use Rattle.wat_print.specs.Form.{else_form, only_where_form, many_form, by_where}
+use Rattle.wat_print.specs.Annotation.{annotation_form}
+use Rattle.wat_print.specs.Form.{else_form, only_where_form, many_form, by_where, Test, Form}
+use Rattle.wat_print.specs.Form.{token_form, option_form, seq_form, by, paren_form}
 use Rattle.wat_print.specs.Parts.{each}
-use Rattle.wat_print.specs.Form.{Test, any, Form, token_form, option_form, seq_form, by}
+use Rattle.wat_print.specs.Strings.{text_form}
 use Rattle.wat_print.specs.WellFormed.{is_name}
-
--- ( @name name )
-abbrev pub spell_name : List ℕ → List Tok
-spell_name n = in_parens (Annotation (codes "name") ∷ String n ∷ [])
 
 abbrev pub OfIds : Test → Test → Type 0
 OfIds rest test = (n : List ℕ) (y : List Tok) → rest y ≡ true → test (Id n ∷ y) ≡ true
 
 abbrev pub id_form : Form (List ℕ)
-id_form =
-    token_form (λ n. Id n) is_name OfIds
+id_form = token_form (λ n. Id n) is_name OfIds
 
+-- ( @name name )
 abbrev pub name_form : Form (List ℕ)
-name_form = record {
-  spell = spell_name;
-  printable = is_utf8;
-  ready = is_utf8;
-  follows = any;
-  empty = false;
-  balanced = true;
-  Fronts = λ rest test. ((y : List Tok) → test (LParen ∷ Annotation (codes "name") ∷ y) ≡ true);
-}
+name_form = paren_form (annotation_form (codes "name") text_form)
 
 abbrev pub label_parts : Label → Option (List ℕ) × Option (List ℕ)
 label_parts l = (l.id, l.name)

@@ -1,4 +1,5 @@
 -- Laws of the definitions: lemmas that other crates use.
+pub mod Annotation
 pub mod Bytes
 pub mod Characters
 pub mod Cutting

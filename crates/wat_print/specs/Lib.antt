@@ -13,6 +13,7 @@ pub use Rattle.wat_types.specs.Recursion
 pub use Rattle.wat_types.specs.StructType
 pub use Rattle.wat_types.specs.Tag
 pub use Rattle.wat_types.specs.Value
+pub mod Annotation
 pub mod Define
 pub mod Form
 pub mod Function
@@ -25,7 +26,6 @@ pub mod Limits
 pub mod WellFormed
 pub mod Parts
 pub mod Printed
-pub mod Printings
 pub mod Prints
 pub mod Reference
 pub mod Refusal

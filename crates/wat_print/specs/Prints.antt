@@ -4,6 +4,7 @@ use Rattle.std.specs.Prelude.{flat_map, ◌≡◌, Bool, true, false, List, ◌�
 use Rattle.std.specs.Prelude.{IfErr, ◌≢◌}
 use Rattle.wat_lexer.specs.Token.{Tok, RParen}
 use Rattle.wat_tokens.specs.Production.{Production}
+use Rattle.wat_tokens.specs.Spelled.{in_parens}
 use Rattle.wat_print.specs.Form.{Form, Test}
 use Rattle.wat_print.specs.Layout.{Writes}
 use Rattle.wat_print.specs.Parts.{each}
@@ -28,13 +29,14 @@ Nests true ts = WellFormed ts
 Nests false ts = (x : List Tok) → Closes x → Closes (ts ++ x)
 
 -- The production g reads the tokens that the form writes for a value as the view of this value.
--- nests: the written tokens nest
+-- N: how the written tokens nest. The flag is `balanced` of the form.
 -- front: if the condition `Fronts` holds, the test passes on the written tokens and the rest
 -- here: before each rest in `follows`, the written tokens spell the view of the value
 -- only: each value that tokens of a text spell is the view of a printable value
-pub record Unparses {A B : Type 0} (form : Form A) (view : A → B) (g : Production B)
+pub record UnparsesAs (N : Bool → List Tok → Type 0) {A B : Type 0} (form : Form A) (view : A → B)
+    (g : Production B)
     : Type 0 where
-  pub nests : (a : A) → form.ready a ≡ true → Nests form.balanced (form.spell a)
+  pub nests : (a : A) → form.ready a ≡ true → N form.balanced (form.spell a)
   pub front : (rest test : Test) → form.Fronts rest test → (a : A) (r : List Tok)
       → form.ready a ≡ true → rest r ≡ true → Passes form.empty test r
       → test (form.spell a ++ r) ≡ true
@@ -42,6 +44,14 @@ pub record Unparses {A B : Type 0} (form : Form A) (view : A → B) (g : Product
       → g.spells (view a) (form.spell a) r
   pub only : (b : B) (c r : List Tok) → each is_given c ≡ true → g.spells b c r
       → (a : A) × (view a ≡ b) × (form.printable a ≡ true)
+
+-- the tokens of the form nest by themselves
+abbrev pub Unparses : {A B : Type 0} → Form A → (A → B) → Production B → Type 0
+Unparses form view g = UnparsesAs Nests form view g
+
+-- the tokens of the form are well formed in parentheses
+abbrev pub Inside : {A B : Type 0} → Form A → (A → B) → Production B → Type 0
+Inside form view g = UnparsesAs (λ b ts. WellFormed (in_parens ts)) form view g
 
 -- the same, if the view of a value is the value itself
 abbrev pub Prints : {A : Type 0} → Form A → Production A → Type 0

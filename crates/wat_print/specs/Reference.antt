@@ -5,8 +5,7 @@ use Rattle.wat_lexer.specs.Token.{Tok, Keyword}
 use Rattle.wat_tokens.specs.Begin.{begins_one_of}
 use Rattle.wat_tokens.specs.Index.{Idx, begins_index}
 use Rattle.wat_tokens.specs.Tests.{begins_group, word_in}
-use Rattle.wat_types.specs.Heap.{abstract_word}
-use Rattle.wat_types.specs.Heap.{HeapTy, concrete, exact, abstract_}
+use Rattle.wat_types.specs.Heap.{abstract_word, HeapTy, concrete, exact, abstract_}
 use Rattle.wat_types.specs.Reference.{RefTy}
 use Rattle.wat_types.specs.Value.{ValTy, i32, i64, f32, f64, ref, plain_words}
 use Rattle.wat_types.specs.declared.heap.AbstractHeapType.{AbstractHeapType}

@@ -2,9 +2,9 @@
 use Rattle.std.specs.Prelude.{ℕ}
 use Rattle.wat_print.specs.declared.fault.Refused.{Refused}
 use Rattle.wat_print.specs.declared.fault.Refused.TheVariants.{Memory, EmptyName, Label, PageSize}
-use Rattle.wat_print.specs.declared.fault.Refused.TheVariants.{Parents, Alignment}
-use Rattle.wat_print.specs.declared.fault.Refused.TheVariants.{Ordering, Float, Hint}
-use Rattle.wat_print.specs.declared.fault.Refused.TheVariants.{Table, Section, Integer, Folded}
+use Rattle.wat_print.specs.declared.fault.Refused.TheVariants.{Parents, Alignment, Ordering, Float}
+use Rattle.wat_print.specs.declared.fault.Refused.TheVariants.{Hint, Table, Section, Integer}
+use Rattle.wat_print.specs.declared.fault.Refused.TheVariants.{Folded}
 
 abbrev pub refused_number : Refused → ℕ
 refused_number Memory = 1

@@ -3,20 +3,21 @@
 //! A [`TypeDef`] has no [`Print`]: its `describes` and `descriptor` clauses close parentheses that
 //! they don't open.
 
-ghost use Rattle.std.specs.Prelude.{List, map};
+ghost use Rattle.std.specs.Prelude.{List, map, refl};
 ghost use Rattle.wat_tokens.specs.Index.{Idx, index_view, index, begins_index};
 ghost use Rattle.wat_tokens.specs.Tests.{second};
 ghost use Rattle.wat_tokens.specs.Views.{option_view};
 ghost use Rattle.wat_types.specs.Define.{InnerKindTy, inner_kind_view, kind, def_view, TypeTy};
 ghost use Rattle.wat_types.specs.Define.{type_view, type_, types_view, begins_type};
 ghost use Rattle.wat_types.specs.Recursion.{rec_view, rec};
-ghost use Rattle.wat_print.specs.Define.{kind_form, link_form, core_parts, core_form};
-ghost use Rattle.wat_print.specs.Define.{shared_parts, shared_form, def_form, type_form, rec_form};
+ghost use Rattle.wat_print.specs.Define.{kind_form, link_form, core_parts, core_form, shared_parts};
+ghost use Rattle.wat_print.specs.Define.{shared_form, def_form, type_form, rec_form};
 ghost use Rattle.wat_print.specs.Form.{many_form, paren_form};
 ghost use Rattle.wat_print.specs.Index.{index_form};
-ghost use Rattle.wat_print.specs.Printings.{index_printing, kind_printing, type_printing};
-ghost use Rattle.wat_print.specs.Printings.{rec_printing};
+ghost use Rattle.wat_print.specs.Printed.{printing_by};
 ghost use Rattle.wat_print.specs.Prints.{Printed, PrintedLines};
+ghost use Rattle.wat_print.specs.Laws.Define.{kind_prints, rec_prints, type_prints};
+ghost use Rattle.wat_print.specs.Laws.Reference.{index_prints};
 
 use crate::fault::Refused;
 use crate::function::write_function;
@@ -187,7 +188,7 @@ impl Print for ContType<'_> {
 
     ghost grammar = { index };
 
-    ghost printing = { index_printing };
+    ghost printing = { printing_by index_form index_prints (λ v h. h) refl refl };
 
     #[tactic(auto, using(crate::specs::Laws::Written::puts_put))]
     fn write(&self, out: &mut Output) -> Result<(), Refused> {
@@ -202,7 +203,7 @@ impl Print for InnerTypeKind<'_> {
 
     ghost grammar = { kind };
 
-    ghost printing = { kind_printing };
+    ghost printing = { printing_by kind_form kind_prints (λ v h. h) refl refl };
 
     #[tactic(auto, using(crate::specs::Laws::Written::puts_put))]
     fn write(&self, out: &mut Output) -> Result<(), Refused> {
@@ -217,7 +218,7 @@ impl Print for Type<'_> {
 
     ghost grammar = { type_ };
 
-    ghost printing = { type_printing };
+    ghost printing = { printing_by type_form type_prints (λ v h. h) refl refl };
 
     #[tactic(auto, using(crate::specs::Laws::Written::puts_put))]
     fn write(&self, out: &mut Output) -> Result<(), Refused> {
@@ -232,7 +233,7 @@ impl Print for Rec<'_> {
 
     ghost grammar = { rec };
 
-    ghost printing = { rec_printing };
+    ghost printing = { printing_by rec_form rec_prints (λ v h. h) refl refl };
 
     fn write(&self, out: &mut Output) -> Result<(), Refused> {
         write_rec(out, self)

@@ -1,6 +1,6 @@
 //! How function types are printed.
 
-ghost use Rattle.std.specs.Prelude.{◌≡◌, map};
+ghost use Rattle.std.specs.Prelude.{◌≡◌, map, refl};
 ghost use Rattle.wat_tokens.specs.Tests.{more};
 ghost use Rattle.wat_types.specs.Function.{function_view, params_view, param_view, function_type};
 ghost use Rattle.wat_types.specs.Group.{FuncTy};
@@ -9,8 +9,9 @@ ghost use Rattle.wat_print.specs.Form.{many_form};
 ghost use Rattle.wat_print.specs.Function.{param_label, param_form, param_alone_form, vals_form};
 ghost use Rattle.wat_print.specs.Function.{param_groups_form, result_groups_form, function_form};
 ghost use Rattle.wat_print.specs.Label.{none_labelled};
-ghost use Rattle.wat_print.specs.Printings.{function_printing};
+ghost use Rattle.wat_print.specs.Printed.{printing_by};
 ghost use Rattle.wat_print.specs.Prints.{Printed};
+ghost use Rattle.wat_print.specs.Laws.Function.{function_prints};
 
 use crate::fault::Refused;
 use crate::label::write_label;
@@ -151,7 +152,7 @@ impl Print for FunctionType<'_> {
 
     ghost grammar = { function_type };
 
-    ghost printing = { function_printing };
+    ghost printing = { printing_by function_form function_prints (λ v h. h) refl refl };
 
     #[tactic(auto, using(crate::specs::Laws::Written::puts_put))]
     fn write(&self, out: &mut Output) -> Result<(), Refused> {

@@ -2,8 +2,11 @@
 
 ghost use Rattle.std.specs.Prelude.{List, ℕ};
 ghost use Rattle.wat_lexer.specs.Integer.{text_of};
+ghost use Rattle.wat_lexer.specs.Number.{is_integer};
 ghost use Rattle.wat_tokens.specs.Integers.{integer};
-ghost use Rattle.wat_print.specs.Printings.{integer_printing};
+ghost use Rattle.wat_print.specs.Integer.{spell_integer};
+ghost use Rattle.wat_print.specs.Printed.{printing_of};
+ghost use Rattle.wat_print.specs.Laws.Integer.{integer_here, integer_only, integer_well_formed};
 
 use crate::fault::Refused;
 use crate::output::Output;
@@ -19,7 +22,8 @@ impl Print for Integer<'_> {
 
     ghost grammar = { integer };
 
-    ghost printing = { integer_printing };
+    ghost printing = { printing_of spell_integer is_integer integer_well_formed (λ v h. integer_here
+        v) integer_only };
 
     #[tactic(auto, using(crate::specs::Laws::Written::puts_put))]
     fn write(&self, out: &mut Output) -> Result<(), Refused> {

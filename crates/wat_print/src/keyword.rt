@@ -2,7 +2,9 @@
 
 ghost use Rattle.std.specs.Prelude.{codes, refl};
 ghost use Rattle.wat_tokens.specs.Parts.{word};
-ghost use Rattle.wat_print.specs.Printings.{word_printing};
+ghost use Rattle.wat_print.specs.Form.{word_form};
+ghost use Rattle.wat_print.specs.Printed.{printing_by};
+ghost use Rattle.wat_print.specs.Laws.Form.{word_prints};
 
 use crate::fault::Refused;
 use crate::output::Output;
@@ -16,7 +18,8 @@ impl Print for kw::func {
 
     ghost grammar = { word (codes "func") };
 
-    ghost printing = { word_printing (codes "func") refl refl };
+    ghost printing = { printing_by (word_form (codes "func")) (word_prints (codes "func") refl refl)
+        (λ v h. h) refl refl };
 
     #[tactic(auto, using(crate::specs::Laws::Written::puts_put))]
     fn write(&self, out: &mut Output) -> Result<(), Refused> {
@@ -31,7 +34,8 @@ impl Print for kw::table {
 
     ghost grammar = { word (codes "table") };
 
-    ghost printing = { word_printing (codes "table") refl refl };
+    ghost printing = { printing_by (word_form (codes "table")) (word_prints (codes "table") refl
+        refl) (λ v h. h) refl refl };
 
     #[tactic(auto, using(crate::specs::Laws::Written::puts_put))]
     fn write(&self, out: &mut Output) -> Result<(), Refused> {
@@ -46,7 +50,8 @@ impl Print for kw::memory {
 
     ghost grammar = { word (codes "memory") };
 
-    ghost printing = { word_printing (codes "memory") refl refl };
+    ghost printing = { printing_by (word_form (codes "memory")) (word_prints (codes "memory") refl
+        refl) (λ v h. h) refl refl };
 
     #[tactic(auto, using(crate::specs::Laws::Written::puts_put))]
     fn write(&self, out: &mut Output) -> Result<(), Refused> {
@@ -61,7 +66,8 @@ impl Print for kw::global {
 
     ghost grammar = { word (codes "global") };
 
-    ghost printing = { word_printing (codes "global") refl refl };
+    ghost printing = { printing_by (word_form (codes "global")) (word_prints (codes "global") refl
+        refl) (λ v h. h) refl refl };
 
     #[tactic(auto, using(crate::specs::Laws::Written::puts_put))]
     fn write(&self, out: &mut Output) -> Result<(), Refused> {
@@ -76,7 +82,8 @@ impl Print for kw::tag {
 
     ghost grammar = { word (codes "tag") };
 
-    ghost printing = { word_printing (codes "tag") refl refl };
+    ghost printing = { printing_by (word_form (codes "tag")) (word_prints (codes "tag") refl refl)
+        (λ v h. h) refl refl };
 
     #[tactic(auto, using(crate::specs::Laws::Written::puts_put))]
     fn write(&self, out: &mut Output) -> Result<(), Refused> {

@@ -1,6 +1,6 @@
 //! How labels are printed.
 
-ghost use Rattle.std.specs.Prelude.{ℕ, List};
+ghost use Rattle.std.specs.Prelude.{ℕ, List, refl};
 ghost use Rattle.wat_tokens.specs.Index.{name_of, identifier};
 ghost use Rattle.wat_tokens.specs.NameAnnotation.{name_annotation, begins_name};
 ghost use Rattle.wat_tokens.specs.Tests.{begins_id};
@@ -8,8 +8,9 @@ ghost use Rattle.wat_tokens.specs.Views.{option_view};
 ghost use Rattle.wat_types.specs.Label.{label_view};
 ghost use Rattle.wat_print.specs.Form.{option_form};
 ghost use Rattle.wat_print.specs.Label.{id_form, name_form, label_form};
-ghost use Rattle.wat_print.specs.Printings.{id_printing, name_printing};
+ghost use Rattle.wat_print.specs.Printed.{printing_by};
 ghost use Rattle.wat_print.specs.Prints.{Printed};
+ghost use Rattle.wat_print.specs.Laws.Label.{id_prints, name_prints};
 
 use crate::fault::Refused;
 use crate::output::Output;
@@ -68,7 +69,7 @@ impl Print for Id<'_> {
 
     ghost grammar = { identifier };
 
-    ghost printing = { id_printing };
+    ghost printing = { printing_by id_form id_prints (λ v h. h) refl refl };
 
     #[tactic(auto, using(crate::specs::Laws::Written::puts_put))]
     fn write(&self, out: &mut Output) -> Result<(), Refused> {
@@ -83,7 +84,7 @@ impl Print for NameAnnotation<'_> {
 
     ghost grammar = { name_annotation };
 
-    ghost printing = { name_printing };
+    ghost printing = { printing_by name_form name_prints (λ v h. h) refl refl };
 
     #[tactic(auto, using(crate::specs::Laws::Written::puts_put))]
     fn write(&self, out: &mut Output) -> Result<(), Refused> {

@@ -1,12 +1,13 @@
 //! How limits, memory types and table types are printed.
 
+ghost use Rattle.std.specs.Prelude.{refl};
 ghost use Rattle.wat_types.specs.Limits.{limits_type, memory_type, table_type, TableTy};
 ghost use Rattle.wat_types.specs.Limits.{table_type_view};
 ghost use Rattle.wat_print.specs.Form.{flag_form};
 ghost use Rattle.wat_print.specs.Limits.{limits_form, page_form, memory_form, table_form};
+ghost use Rattle.wat_print.specs.Printed.{printing_by};
 ghost use Rattle.wat_print.specs.Prints.{Printed};
-ghost use Rattle.wat_print.specs.Printings.{limits_printing, memory_type_printing};
-ghost use Rattle.wat_print.specs.Printings.{table_type_printing};
+ghost use Rattle.wat_print.specs.Laws.Limits.{limits_prints, memory_prints, table_prints};
 
 use crate::fault::Refused;
 use crate::output::Output;
@@ -84,7 +85,7 @@ impl Print for Limits {
 
     ghost grammar = { limits_type };
 
-    ghost printing = { limits_printing };
+    ghost printing = { printing_by limits_form limits_prints (λ v h. h) refl refl };
 
     #[tactic(auto, using(crate::specs::Laws::Written::puts_put))]
     fn write(&self, out: &mut Output) -> Result<(), Refused> {
@@ -101,7 +102,7 @@ impl Print for MemoryType {
 
     ghost grammar = { memory_type };
 
-    ghost printing = { memory_type_printing };
+    ghost printing = { printing_by memory_form memory_prints (λ v h. h) refl refl };
 
     #[tactic(auto, using(crate::specs::Laws::Written::puts_put))]
     fn write(&self, out: &mut Output) -> Result<(), Refused> {
@@ -116,7 +117,7 @@ impl Print for TableType<'_> {
 
     ghost grammar = { table_type };
 
-    ghost printing = { table_type_printing };
+    ghost printing = { printing_by table_form table_prints (λ v h. h) refl refl };
 
     #[tactic(auto, using(crate::specs::Laws::Written::puts_put))]
     fn write(&self, out: &mut Output) -> Result<(), Refused> {

@@ -1,8 +1,8 @@
 //! The output: a text that is written token by token.
 
 ghost use Rattle.std.specs.Prelude.{◌≡◌, ◌≢◌, ◌∷◌, ◌++◌, ◌*◌, [], ◌<◌, ℕ, true, false};
-ghost use Rattle.std.specs.Prelude.{if◌then◌else◌, OnOk, IfErr, decimal, string_bytes};
-ghost use Rattle.std.specs.Prelude.{encode_utf8, flat_map};
+ghost use Rattle.std.specs.Prelude.{if◌then◌else◌, OnOk, IfErr, decimal, string_bytes, encode_utf8};
+ghost use Rattle.std.specs.Prelude.{flat_map};
 ghost use Rattle.std.specs.Fmt.{signed_decimal};
 ghost use Rattle.std.specs.Str.{is_utf8};
 ghost use Rattle.wat_lexer.specs.Bytes.{is_idchar};
@@ -10,8 +10,8 @@ ghost use Rattle.wat_lexer.specs.Token.{LParen, RParen, Keyword, Id, Annotation,
 ghost use Rattle.wat_lexer.specs.Token.{String as Text};
 ghost use Rattle.wat_print.specs.Layout.{broken, blanks};
 ghost use Rattle.wat_print.specs.WellFormed.{is_name};
-ghost use Rattle.wat_print.specs.Text.{put, blank_page, escape, quoted, quoted_as};
-ghost use Rattle.wat_print.specs.Text.{name_text, all_are};
+ghost use Rattle.wat_print.specs.Text.{put, blank_page, escape, quoted, quoted_as, name_text};
+ghost use Rattle.wat_print.specs.Text.{all_are};
 ghost use Rattle.wat_print.specs.declared.fault.Refused.TheVariants.{Memory};
 ghost use Rattle.wat_print.specs.Printed.{may_break};
 

@@ -1,15 +1,17 @@
 //! How indices, heap types, reference types and value types are printed.
 
-ghost use Rattle.std.specs.Prelude.{◌≡◌};
+ghost use Rattle.std.specs.Prelude.{◌≡◌, refl};
 ghost use Rattle.wat_tokens.specs.Index.{Idx, index_view, index};
 ghost use Rattle.wat_types.specs.Heap.{HeapTy, heap_view, abstract_, heap_type, abstract_heap_type};
 ghost use Rattle.wat_types.specs.Reference.{RefTy, ref_view, ref_type};
 ghost use Rattle.wat_types.specs.Value.{ValTy, val_view, val_type};
 ghost use Rattle.wat_print.specs.Index.{index_form};
-ghost use Rattle.wat_print.specs.Printings.{index_printing, abstract_printing, heap_printing};
-ghost use Rattle.wat_print.specs.Printings.{ref_printing, val_printing};
+ghost use Rattle.wat_print.specs.Printed.{printing_by};
 ghost use Rattle.wat_print.specs.Prints.{Printed};
 ghost use Rattle.wat_print.specs.Reference.{short_word, heap_form, long_form, ref_form, val_form};
+ghost use Rattle.wat_print.specs.Reference.{abstract_form};
+ghost use Rattle.wat_print.specs.Laws.Reference.{abstract_prints, heap_prints, index_prints};
+ghost use Rattle.wat_print.specs.Laws.Reference.{ref_prints, val_prints};
 
 use crate::fault::Refused;
 use crate::output::Output;
@@ -127,7 +129,7 @@ impl Print for Index<'_> {
 
     ghost grammar = { index };
 
-    ghost printing = { index_printing };
+    ghost printing = { printing_by index_form index_prints (λ v h. h) refl refl };
 
     #[tactic(auto, using(crate::specs::Laws::Written::puts_put))]
     fn write(&self, out: &mut Output) -> Result<(), Refused> {
@@ -144,7 +146,7 @@ impl Print for AbstractHeapType {
 
     ghost grammar = { abstract_heap_type };
 
-    ghost printing = { abstract_printing };
+    ghost printing = { printing_by abstract_form abstract_prints (λ v h. h) refl refl };
 
     #[tactic(auto, using(crate::specs::Laws::Written::puts_put))]
     fn write(&self, out: &mut Output) -> Result<(), Refused> {
@@ -159,7 +161,7 @@ impl Print for HeapType<'_> {
 
     ghost grammar = { heap_type };
 
-    ghost printing = { heap_printing };
+    ghost printing = { printing_by heap_form heap_prints (λ v h. h) refl refl };
 
     #[tactic(auto, using(crate::specs::Laws::Written::puts_put))]
     fn write(&self, out: &mut Output) -> Result<(), Refused> {
@@ -174,7 +176,7 @@ impl Print for RefType<'_> {
 
     ghost grammar = { ref_type };
 
-    ghost printing = { ref_printing };
+    ghost printing = { printing_by ref_form ref_prints (λ v h. h) refl refl };
 
     #[tactic(auto, using(crate::specs::Laws::Written::puts_put))]
     fn write(&self, out: &mut Output) -> Result<(), Refused> {
@@ -189,7 +191,7 @@ impl Print for ValType<'_> {
 
     ghost grammar = { val_type };
 
-    ghost printing = { val_printing };
+    ghost printing = { printing_by val_form val_prints (λ v h. h) refl refl };
 
     #[tactic(auto, using(crate::specs::Laws::Written::puts_put))]
     fn write(&self, out: &mut Output) -> Result<(), Refused> {

@@ -1,11 +1,12 @@
 //! How strings are printed.
 
-ghost use Rattle.std.specs.Prelude.{◌≡◌, List, ℕ, OnOk, true, IfErr};
+ghost use Rattle.std.specs.Prelude.{◌≡◌, List, ℕ, OnOk, true, IfErr, refl};
 ghost use Rattle.wat_tokens.specs.Strings.{string, text};
-ghost use Rattle.wat_print.specs.Printings.{string_printing, text_printing};
-ghost use Rattle.wat_print.specs.Strings.{printable_string, string_form};
+ghost use Rattle.wat_print.specs.Printed.{printing_by};
+ghost use Rattle.wat_print.specs.Strings.{printable_string, string_form, text_form};
 ghost use Rattle.wat_print.specs.Text.{put};
 ghost use Rattle.wat_print.specs.declared.fault.Refused.TheVariants.{Memory};
+ghost use Rattle.wat_print.specs.Laws.Strings.{string_prints, text_prints};
 
 use crate::fault::Refused;
 use crate::output::Output;
@@ -27,7 +28,7 @@ impl Print for &[u8] {
 
     ghost grammar = { string };
 
-    ghost printing = { string_printing };
+    ghost printing = { printing_by string_form string_prints (λ s h. h) refl refl };
 
     #[tactic(auto, using(crate::specs::Laws::Written::puts_put))]
     fn write(&self, out: &mut Output) -> Result<(), Refused> {
@@ -42,7 +43,7 @@ impl Print for &str {
 
     ghost grammar = { text };
 
-    ghost printing = { text_printing };
+    ghost printing = { printing_by text_form text_prints (λ s h. h) refl refl };
 
     #[tactic(auto, using(crate::specs::Laws::Written::puts_put))]
     fn write(&self, out: &mut Output) -> Result<(), Refused> {

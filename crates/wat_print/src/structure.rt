@@ -1,14 +1,15 @@
 //! How structure types are printed.
 
-ghost use Rattle.std.specs.Prelude.{◌≡◌, List};
+ghost use Rattle.std.specs.Prelude.{◌≡◌, List, refl};
 ghost use Rattle.wat_tokens.specs.Tests.{more};
 ghost use Rattle.wat_types.specs.Struct.{MemberTy, member_view, members_view, struct_view};
 ghost use Rattle.wat_types.specs.StructType.{struct_type};
 ghost use Rattle.wat_print.specs.Form.{many_form};
 ghost use Rattle.wat_print.specs.Label.{none_labelled};
-ghost use Rattle.wat_print.specs.Printings.{struct_printing};
+ghost use Rattle.wat_print.specs.Printed.{printing_by};
 ghost use Rattle.wat_print.specs.Prints.{Printed};
 ghost use Rattle.wat_print.specs.Struct.{member_label, member_form, member_alone_form, struct_form};
+ghost use Rattle.wat_print.specs.Laws.Struct.{struct_prints};
 
 use crate::fault::Refused;
 use crate::label::write_label;
@@ -105,7 +106,7 @@ impl Print for StructType<'_> {
 
     ghost grammar = { struct_type };
 
-    ghost printing = { struct_printing };
+    ghost printing = { printing_by struct_form struct_prints (λ v h. h) refl refl };
 
     #[tactic(auto, using(crate::specs::Laws::Written::puts_put))]
     fn write(&self, out: &mut Output) -> Result<(), Refused> {

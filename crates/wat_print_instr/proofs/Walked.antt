@@ -4,18 +4,22 @@ use Rattle.std.specs.Prelude.{flat_map, map, length, drop, Option, Some, None, o
 use Rattle.std.proofs.Common.{refl, ap, subst, sym, ◌∙◌, append_assoc, append-nil, get_or, arith}
 use Rattle.std.proofs.lemmas.Grind.{flat_map-append}
 use Rattle.std.proofs.lemmas.Bool.{and_right}
+use Rattle.std.proofs.lemmas.List.{drop_more}
 use Rattle.wat_lexer.specs.Token.{Tok}
 use Rattle.wat_instr.specs.Instruction.{Instr}
 use Rattle.wat_print.specs.Layout.{Writes}
-use Rattle.wat_print.specs.Parts.{each, spell_option}
+use Rattle.wat_print.specs.Parts.{each}
 use Rattle.wat_print.specs.Text.{Page}
 use Rattle.wat_print.specs.Laws.Parts.{each_both}
-use Rattle.wat_print.specs.Laws.Written.{puts_both, puts_put, puts_line}
+use Rattle.wat_print.specs.Laws.Written.{puts_both, puts_put, puts_line, put_both}
 use Rattle.wat_print_instr.specs.ExpressionForm.{HintedInstr, step_of, spell_step, printable_step}
 use Rattle.wat_print_instr.specs.ExpressionForm.{steps_from, hint_for, hints_after}
-use Rattle.wat_print_instr.specs.ExpressionForm.{spell_expression, printable_expression}
+use Rattle.wat_print_instr.specs.ExpressionForm.{printable_expression}
 use Rattle.wat_print_instr.specs.InstructionForm.{passes}
 use Rattle.wat_print_instr.specs.Laws.Expression.{next_step}
+
+-- one more value of a list
+pub ruleset value_more = (drop_more, put_both)
 
 -- a line break, or nothing
 pub ruleset line_or_nothing = (puts_line, puts_put)
@@ -29,18 +33,6 @@ pub record Walked (is : List Instr) (hs : List (ℕ × ℕ)) (b : ℕ) (left : L
       ≡ option_map (λ xs. done ++ xs) (steps_from b (drop b is) left)
   pub written : Writes (flat_map spell_step done) p q
   pub printable : each printable_step done ≡ true
-
-same_option : (o : Option (List HintedInstr)) → o ≡ option_map (λ xs. [] ++ xs) o
-same_option (Some xs) = refl
-same_option None = refl
-
-pub walk_begins : (is : List Instr) (hs : List (ℕ × ℕ)) (p : Page) → Walked is hs 0 hs p p
-walk_begins is hs p = record {
-  done = [];
-  goes = same_option (steps_from 0 is hs);
-  written = puts_put [] p p refl;
-  printable = refl;
-}
 
 -- one more instruction
 map_twice : (x : HintedInstr) (done : List HintedInstr) (o : Option (List HintedInstr))
@@ -71,39 +63,6 @@ walk_goes is hs b left i p q s e w v f =
     }
 
 -- ---- the end of the walk
-
-all_steps : (is : List Instr) (hs : List (ℕ × ℕ)) (b : ℕ) (p q : Page) (e : drop b is ≡ [])
-    (w : Walked is hs b [] p q) → steps_from 0 is hs ≡ Some (w.done ++ [])
-all_steps is hs b p q e w =
-    w.goes ∙ ap (λ (l : List Instr). option_map (λ xs. w.done ++ xs) (steps_from b l [])) e
-
--- no instruction and no hint is left, so the expression can be written
-pub walk_printable : (is : List Instr) (hs : List (ℕ × ℕ)) (b : ℕ) (p q : Page) → drop b is ≡ []
-    → Walked is hs b [] p q
-    → printable_expression (record { instrs = is; hints = hs }) ≡ true
-walk_printable is hs b p q e w =
-    subst (λ (o : Option (List HintedInstr)). passes (each printable_step) o ≡ true)
-    (sym (all_steps is hs b p q e w))
-    (subst (λ (l : List HintedInstr). each printable_step l ≡ true)
-    (sym (append-nil w.done)) w.printable)
-
-pub walk_written : (is : List Instr) (hs : List (ℕ × ℕ)) (b : ℕ) (p q : Page) → drop b is ≡ []
-    → Walked is hs b [] p q
-    → Writes (spell_expression (record { instrs = is; hints = hs })) p q
-walk_written is hs b p q e w =
-    subst (λ (o : Option (List HintedInstr)). Writes (spell_option (flat_map spell_step) o) p q)
-    (sym (all_steps is hs b p q e w))
-    (subst (λ (l : List HintedInstr). Writes (flat_map spell_step l) p q) (sym (append-nil w.done))
-    w.written)
-
--- a hint is left, so the expression can't be written
-pub walk_left : (is : List Instr) (hs : List (ℕ × ℕ)) (b : ℕ) (h : ℕ × ℕ) (left : List (ℕ × ℕ))
-    (p q : Page) → drop b is ≡ [] → Walked is hs b (h ∷ left) p q
-    → printable_expression (record { instrs = is; hints = hs }) ≡ false
-walk_left is hs b h left p q e w =
-    subst (λ (o : Option (List HintedInstr)). passes (each printable_step) o ≡ false)
-    (sym (w.goes ∙ ap (λ (l : List Instr). option_map (λ xs. w.done ++ xs)
-    (steps_from b l (h ∷ left))) e)) refl
 
 not_all : (done : List HintedInstr) (x : HintedInstr) (xs : List HintedInstr)
     → printable_step x ≡ false

@@ -1,6 +1,6 @@
 -- How memory accesses and orderings are written.
-use Rattle.std.specs.Prelude.{ℕ, Bool, true, not, ◌&&◌, ◌||◌, ◌==◌, codes, Option}
-use Rattle.std.specs.Prelude.{Some, None, is_none, option_map, ◌⊎◌}
+use Rattle.std.specs.Prelude.{ℕ, Bool, true, not, ◌&&◌, ◌||◌, ◌==◌, codes, Option, Some, None}
+use Rattle.std.specs.Prelude.{is_none, option_map, ◌⊎◌}
 use Rattle.std.specs.Int.{is_power_of_two}
 use Rattle.std.proofs.Common.{inl, inr}
 use Rattle.wat_tokens.specs.Index.{Idx}
@@ -129,4 +129,4 @@ printable_lane_access a l = printable_access a l.memarg && lane_form.printable l
 abbrev pub lane_access_form : ℕ → Form LaneAccessTy
 lane_access_form a =
     record (by_where (printable_lane_access a) lane_access_parts
-    (seq_form (place_form a) lane_form)) { follows = λ r. no_type r && not (goes_on r) }
+    (seq_form (place_form a) lane_form)) { follows = λ r. not (goes_on r) }

@@ -12,7 +12,9 @@ use Rattle.wat_mnemonics.specs.declared.scalar.ScalarOp.TheVariants as scalar
 use Rattle.wat_instr.specs.Instruction.{Instr}
 use Rattle.wat_expr.specs.Expression.{Expr}
 use Rattle.wat_expr.specs.Folded.{Groups, NoGroup, Group}
+use Rattle.wat_print.specs.Form.{any, Form, paren_form}
 use Rattle.wat_print.specs.Parts.{spell_option, each}
+use Rattle.wat_print_instr.specs.Form.{plain_form}
 use Rattle.wat_print_instr.specs.InstructionForm.{spell_instruction, printable_instruction}
 
 -- ---- the groups that a `try_table` takes as catch clauses
@@ -71,8 +73,8 @@ group_from before (i ∷ j ∷ is) = group_from (before ++ i ∷ []) (j ∷ is)
 -- ---- how groups are written
 
 -- ( i )
-abbrev pub spell_own : Instr → List Tok
-spell_own i = in_parens (spell_instruction i)
+abbrev pub own_form : Form Instr
+own_form = paren_form (plain_form spell_instruction printable_instruction any)
 
 -- each is ( i groups )
 abbrev pub spell_groups : Groups → List Tok

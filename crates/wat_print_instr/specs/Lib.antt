@@ -15,12 +15,9 @@ pub mod Access
 pub mod Control
 pub mod ExpressionForm
 pub mod FoldedForm
-pub mod FoldedPrinting
 pub mod Form
 pub mod InstructionForm
-pub mod InstructionPrinting
 pub mod Laws
 pub mod Numbers
 pub mod Places
-pub mod Printings
 pub mod Vectors

@@ -1,22 +1,24 @@
 //! Printing of memory accesses, orderings and lanes.
+#![tactic(auto, using(wat_print::specs::Laws::Written::put_both))]
 
-ghost use Rattle.std.specs.Prelude.{◌≡◌, OnOk, IfErr, if◌then◌else◌, option_map};
-ghost use Rattle.std.specs.Prelude.{Some, None};
+ghost use Rattle.std.specs.Prelude.{◌≡◌, OnOk, IfErr, if◌then◌else◌, option_map, Some, None, refl};
 ghost use Rattle.wat_operands.specs.Lanes.{lane_arg, lane_access_view};
 ghost use Rattle.wat_operands.specs.Memory.{target_view, mem_arg_view};
 ghost use Rattle.wat_operands.specs.Ordering.{ordering, ordered, ordered_view};
 ghost use Rattle.wat_print.specs.Limits.{is_u64};
 ghost use Rattle.wat_print.specs.Parts.{spell_option};
+ghost use Rattle.wat_print.specs.Printed.{printing_by};
 ghost use Rattle.wat_print.specs.Prints.{Printed};
 ghost use Rattle.wat_print.specs.Text.{put};
 ghost use Rattle.wat_print.specs.declared.fault.Refused.TheVariants.{Memory};
-ghost use Rattle.wat_print_instr.specs.Access.{target_form, align_form, place_form};
-ghost use Rattle.wat_print_instr.specs.Access.{place_of, access_form, ordering_form, fence_form};
-ghost use Rattle.wat_print_instr.specs.Access.{ordering_in, printable_ordering, atomic_form};
-ghost use Rattle.wat_print_instr.specs.Access.{lane_form, lane_access_form};
+ghost use Rattle.wat_print_instr.specs.Access.{target_form, align_form, place_form, place_of};
+ghost use Rattle.wat_print_instr.specs.Access.{access_form, ordering_form, fence_form, ordering_in};
+ghost use Rattle.wat_print_instr.specs.Access.{printable_ordering, atomic_form, lane_form};
+ghost use Rattle.wat_print_instr.specs.Access.{lane_access_form, ordered_form};
+ghost use Rattle.wat_print_instr.specs.Form.{exactly};
 ghost use Rattle.wat_print_instr.specs.Numbers.{numbered_form};
-ghost use Rattle.wat_print_instr.specs.Printings.{ordering_printing, ordered_printing};
-ghost use Rattle.wat_print_instr.specs.Printings.{lane_printing};
+ghost use Rattle.wat_print_instr.specs.Laws.Access.{lane_prints, ordered_prints, ordering_prints};
+ghost use Rattle.wat_print_instr.specs.Laws.Form.{exactly_prints};
 
 use crate::places::write_index_or_0;
 use crate::traits::PrintCode;
@@ -27,7 +29,6 @@ use wat_print::reference::write_index;
 use wat_print::{Output, Refused};
 
 /// Writes the target of an access: `( type idx )` for an array, or a memory. Memory 0 is omitted.
-#[tactic(auto, using(wat_print::specs::Laws::Written::put_both))]
 fn write_target(out: &mut Output, target: &MemArgTarget) -> Result<(), Refused>
     ensures { Printed target_form (target_view target.now) result out.old out.new }
 {
@@ -64,7 +65,6 @@ fn write_unless(out: &mut Output, is_meant: bool, front: &str, number: u64) -> R
 /// Writes the target, the offset and the alignment of an access, but not its ordering. Offset 0 and
 /// the default alignment are omitted. It fails with Alignment if the alignment is neither the
 /// default nor a power of two.
-#[tactic(auto, using(wat_print::specs::Laws::Written::put_both))]
 fn write_place(out: &mut Output, access: &MemArg, default: u64) -> Result<(), Refused>
     ensures { Printed (place_form default) (place_of (mem_arg_view access.now)) result out.old
         out.new }
@@ -91,16 +91,6 @@ pub fn write_access(out: &mut Output, access: &MemArg, default: u64) -> Result<(
     write_place(out, access, default)
 }
 
-/// Writes an ordering.
-pub(crate) fn write_ordering(out: &mut Output, ordering: Ordering) -> Result<(), Refused>
-    ensures { Printed ordering_form ordering result out.old out.new }
-{
-    match ordering {
-        Ordering::AcqRel => out.word("acqrel"),
-        Ordering::SeqCst => out.word("seqcst"),
-    }
-}
-
 /// Whether an atomic instruction can have the ordering. `rmw` is true for a read-modify-write
 /// instruction.
 fn may_order(ordering: Option<MemArgOrdering>, rmw: bool) -> bool
@@ -119,8 +109,8 @@ fn write_access_ordering(out: &mut Output, ordering: Option<MemArgOrdering>) -> 
 {
     match ordering {
         None => Ok(()),
-        Some(MemArgOrdering::Op(ordering)) => write_ordering(out, ordering),
-        Some(MemArgOrdering::Rmw(ordering)) => write_ordering(out, ordering),
+        Some(MemArgOrdering::Op(ordering)) => ordering.write(out),
+        Some(MemArgOrdering::Rmw(ordering)) => ordering.write(out),
     }
 }
 
@@ -131,7 +121,6 @@ fn write_access_ordering(out: &mut Output, ordering: Option<MemArgOrdering>) -> 
 /// It fails with Ordering if the ordering is `Rmw` and `rmw` is false, or the ordering is `Op` and
 /// `rmw` is true. It fails with Alignment if the alignment is neither the default nor a power of
 /// two.
-#[tactic(auto, using(wat_print::specs::Laws::Written::put_both))]
 pub fn write_atomic(
     out: &mut Output,
     access: &MemArg,
@@ -147,16 +136,8 @@ pub fn write_atomic(
     write_access_ordering(out, access.ordering)
 }
 
-/// Writes a lane.
-fn write_lane(out: &mut Output, lane: &LaneArg) -> Result<(), Refused>
-    ensures { Printed lane_form lane.now result out.old out.new }
-{
-    out.number(u64::from(lane.lane))
-}
-
 /// Writes the operand of an access to one lane (Text Format, Instructions, "Memory Instructions"):
 /// the access, as [`write_access`] does, and then the lane. It fails as [`write_access`] does.
-#[tactic(auto, using(wat_print::specs::Laws::Written::put_both))]
 pub fn write_lane_access(
     out: &mut Output,
     lane: &LoadOrStoreLane,
@@ -166,7 +147,7 @@ pub fn write_lane_access(
         out.new }
 {
     write_access(out, &lane.memarg, default)?;
-    write_lane(out, &lane.lane)
+    lane.lane.write(out)
 }
 
 impl PrintCode for Ordering {
@@ -178,10 +159,13 @@ impl PrintCode for Ordering {
 
     ghost grammar = { ordering };
 
-    ghost printing = { ordering_printing };
+    ghost printing = { printing_by ordering_form ordering_prints (λ o h. h) refl refl };
 
     fn write(&self, out: &mut Output) -> Result<(), Refused> {
-        write_ordering(out, *self)
+        match self {
+            Ordering::AcqRel => out.word("acqrel"),
+            Ordering::SeqCst => out.word("seqcst"),
+        }
     }
 }
 
@@ -194,11 +178,11 @@ impl<T: PrintCode> PrintCode for Ordered<T> {
 
     ghost grammar = { ordered T.grammar };
 
-    ghost printing = { ordered_printing T.grammar T.printing };
+    ghost printing = { printing_by (ordered_form (exactly T.printing)) (ordered_prints
+        (exactly_prints T.printing) (λ v r h i e. refl)) (λ v h. h) refl refl };
 
-    #[tactic(auto, using(wat_print::specs::Laws::Written::put_both))]
     fn write(&self, out: &mut Output) -> Result<(), Refused> {
-        write_ordering(out, self.ordering)?;
+        self.ordering.write(out)?;
         self.inner.write(out)
     }
 }
@@ -212,9 +196,9 @@ impl PrintCode for LaneArg {
 
     ghost grammar = { lane_arg };
 
-    ghost printing = { lane_printing };
+    ghost printing = { printing_by lane_form lane_prints (λ l h. h) refl refl };
 
     fn write(&self, out: &mut Output) -> Result<(), Refused> {
-        write_lane(out, self)
+        out.number(u64::from(self.lane))
     }
 }

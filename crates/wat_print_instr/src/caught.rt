@@ -1,6 +1,7 @@
 //! Printing of the catch clauses of a `try_table`, and of tables of handlers.
+#![tactic(auto, using(wat_print::specs::Laws::Written::put_both))]
 
-ghost use Rattle.std.specs.Prelude.{List};
+ghost use Rattle.std.specs.Prelude.{List, refl};
 ghost use Rattle.wat_tokens.specs.Index.{index_view};
 ghost use Rattle.wat_operands.specs.CatchClause.{CatchTy, catch_clause};
 ghost use Rattle.wat_operands.specs.Catches.{catch_kind_view, catch_view, TryTy, try_view};
@@ -9,11 +10,12 @@ ghost use Rattle.wat_operands.specs.Handler.{HandleTy, handler};
 ghost use Rattle.wat_operands.specs.Handlers.{handle_view, resume_table_view, resume_table};
 ghost use Rattle.wat_operands.specs.Handlers.{ResumeTy, resume_view, resume_throw_ref_view, resume};
 ghost use Rattle.wat_operands.specs.Handlers.{ThrowTy, resume_throw_view, resume_throw};
+ghost use Rattle.wat_print.specs.Printed.{printing_by};
 ghost use Rattle.wat_print.specs.Prints.{Printed};
-ghost use Rattle.wat_print_instr.specs.Control.{catch_kind_form, resume_table_form};
-ghost use Rattle.wat_print_instr.specs.Printings.{catch_printing, try_printing, handler_printing};
-ghost use Rattle.wat_print_instr.specs.Printings.{resume_table_printing, resume_printing};
-ghost use Rattle.wat_print_instr.specs.Printings.{throw_printing};
+ghost use Rattle.wat_print_instr.specs.Control.{catch_kind_form, resume_table_form, catch_form};
+ghost use Rattle.wat_print_instr.specs.Control.{handler_form, resume_form, throw_form, try_form};
+ghost use Rattle.wat_print_instr.specs.Laws.Control.{catch_prints, handler_prints, resume_prints};
+ghost use Rattle.wat_print_instr.specs.Laws.Control.{resume_table_prints, throw_prints, try_prints};
 
 use crate::control::write_block;
 use crate::traits::{PrintCode, write_each};
@@ -49,9 +51,8 @@ impl PrintCode for TryTableCatch<'_> {
 
     ghost grammar = { catch_clause };
 
-    ghost printing = { catch_printing };
+    ghost printing = { printing_by catch_form catch_prints (λ c h. h) refl refl };
 
-    #[tactic(auto, using(wat_print::specs::Laws::Written::put_both))]
     fn write(&self, out: &mut Output) -> Result<(), Refused> {
         out.open()?;
         write_catch_kind(out, &self.kind)?;
@@ -67,9 +68,8 @@ impl PrintCode for TryTable<'_> {
 
     ghost grammar = { try_table };
 
-    ghost printing = { try_printing };
+    ghost printing = { printing_by try_form try_prints (λ t h. h) refl refl };
 
-    #[tactic(auto, using(wat_print::specs::Laws::Written::put_both))]
     fn write(&self, out: &mut Output) -> Result<(), Refused> {
         write_block(out, &self.block)?;
         write_each(out, &self.catches)
@@ -83,9 +83,8 @@ impl PrintCode for Handle<'_> {
 
     ghost grammar = { handler };
 
-    ghost printing = { handler_printing };
+    ghost printing = { printing_by handler_form handler_prints (λ h k. k) refl refl };
 
-    #[tactic(auto, using(wat_print::specs::Laws::Written::put_both))]
     fn write(&self, out: &mut Output) -> Result<(), Refused> {
         out.open()?;
         out.word("on")?;
@@ -104,13 +103,6 @@ impl PrintCode for Handle<'_> {
     }
 }
 
-/// Writes handlers in order.
-fn write_handlers(out: &mut Output, table: &ResumeTable) -> Result<(), Refused>
-    ensures { Printed resume_table_form (resume_table_view table.now) result out.old out.new }
-{
-    write_each(out, &table.handlers)
-}
-
 impl PrintCode for ResumeTable<'_> {
     ghost View = { List HandleTy };
 
@@ -118,10 +110,10 @@ impl PrintCode for ResumeTable<'_> {
 
     ghost grammar = { resume_table };
 
-    ghost printing = { resume_table_printing };
+    ghost printing = { printing_by resume_table_form resume_table_prints (λ t h. h) refl refl };
 
     fn write(&self, out: &mut Output) -> Result<(), Refused> {
-        write_handlers(out, self)
+        write_each(out, &self.handlers)
     }
 }
 
@@ -132,12 +124,11 @@ impl PrintCode for Resume<'_> {
 
     ghost grammar = { resume };
 
-    ghost printing = { resume_printing };
+    ghost printing = { printing_by resume_form resume_prints (λ v h. h) refl refl };
 
-    #[tactic(auto, using(wat_print::specs::Laws::Written::put_both))]
     fn write(&self, out: &mut Output) -> Result<(), Refused> {
         write_index(out, &self.type_index)?;
-        write_handlers(out, &self.table)
+        self.table.write(out)
     }
 }
 
@@ -148,13 +139,12 @@ impl PrintCode for ResumeThrow<'_> {
 
     ghost grammar = { resume_throw };
 
-    ghost printing = { throw_printing };
+    ghost printing = { printing_by throw_form throw_prints (λ v h. h) refl refl };
 
-    #[tactic(auto, using(wat_print::specs::Laws::Written::put_both))]
     fn write(&self, out: &mut Output) -> Result<(), Refused> {
         write_index(out, &self.type_index)?;
         write_index(out, &self.tag_index)?;
-        write_handlers(out, &self.table)
+        self.table.write(out)
     }
 }
 
@@ -165,11 +155,10 @@ impl PrintCode for ResumeThrowRef<'_> {
 
     ghost grammar = { resume };
 
-    ghost printing = { resume_printing };
+    ghost printing = { printing_by resume_form resume_prints (λ v h. h) refl refl };
 
-    #[tactic(auto, using(wat_print::specs::Laws::Written::put_both))]
     fn write(&self, out: &mut Output) -> Result<(), Refused> {
         write_index(out, &self.type_index)?;
-        write_handlers(out, &self.table)
+        self.table.write(out)
     }
 }

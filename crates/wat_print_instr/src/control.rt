@@ -1,8 +1,9 @@
 //! Printing of the types of blocks, calls, selects and casts.
+#![tactic(auto, using(wat_print::specs::Laws::Written::put_both))]
 
-ghost use Rattle.std.specs.Prelude.{◌≡◌, List, Option, map};
+ghost use Rattle.std.specs.Prelude.{◌≡◌, List, Option, refl};
 ghost use Rattle.wat_types.specs.Reference.{RefTy, ref_type};
-ghost use Rattle.wat_types.specs.Value.{ValTy, val_view};
+ghost use Rattle.wat_types.specs.Value.{ValTy};
 ghost use Rattle.wat_operands.specs.Block.{BlockTy, signature_view, block_view, block_type};
 ghost use Rattle.wat_operands.specs.Call.{CallTy, call_view, call_indirect};
 ghost use Rattle.wat_operands.specs.Casts.{test_view, cast_view, cast_desc_eq_view, BranchTy};
@@ -13,12 +14,14 @@ ghost use Rattle.wat_operands.specs.Select.{select_view, select_types};
 ghost use Rattle.wat_print.specs.Function.{param_label};
 ghost use Rattle.wat_print.specs.Label.{none_labelled};
 ghost use Rattle.wat_print.specs.Parts.{if_some};
-ghost use Rattle.wat_print.specs.Printings.{ref_printing};
+ghost use Rattle.wat_print.specs.Printed.{printing_by};
 ghost use Rattle.wat_print.specs.Prints.{Printed};
+ghost use Rattle.wat_print.specs.Reference.{ref_form};
 ghost use Rattle.wat_print.specs.Use.{unnamed_use_form};
-ghost use Rattle.wat_print_instr.specs.Control.{block_form, results_form, branch_form};
-ghost use Rattle.wat_print_instr.specs.Printings.{block_printing, call_printing, select_printing};
-ghost use Rattle.wat_print_instr.specs.Printings.{branch_printing};
+ghost use Rattle.wat_print.specs.Laws.Reference.{ref_prints};
+ghost use Rattle.wat_print_instr.specs.Control.{block_form, branch_form, call_form, select_form};
+ghost use Rattle.wat_print_instr.specs.Laws.Control.{block_prints, branch_prints, call_prints};
+ghost use Rattle.wat_print_instr.specs.Laws.Control.{select_prints};
 
 use crate::places::write_index_or_0;
 use crate::traits::PrintCode;
@@ -58,7 +61,6 @@ fn write_signature(out: &mut Output, ty: &TypeUse<FunctionType>) -> Result<(), R
 
 /// Writes the label and the type of a block (Text Format, Instructions, "Control Instructions"). It
 /// fails with Label if a parameter of the type has an identifier or a name.
-#[tactic(auto, using(wat_print::specs::Laws::Written::put_both))]
 pub fn write_block(out: &mut Output, block: &BlockType) -> Result<(), Refused>
     ensures { Printed block_form (block_view block.now) result out.old out.new }
 {
@@ -67,7 +69,6 @@ pub fn write_block(out: &mut Output, block: &BlockType) -> Result<(), Refused>
 }
 
 /// Writes a label, and the types that a branch casts from and to.
-#[tactic(auto, using(wat_print::specs::Laws::Written::put_both))]
 fn write_branch(
     out: &mut Output,
     label: &Index,
@@ -89,7 +90,7 @@ impl PrintCode for BlockType<'_> {
 
     ghost grammar = { block_type };
 
-    ghost printing = { block_printing };
+    ghost printing = { printing_by block_form block_prints (λ b h. h) refl refl };
 
     fn write(&self, out: &mut Output) -> Result<(), Refused> {
         write_block(out, self)
@@ -104,24 +105,12 @@ impl PrintCode for CallIndirect<'_> {
 
     ghost grammar = { call_indirect };
 
-    ghost printing = { call_printing };
+    ghost printing = { printing_by call_form call_prints (λ c h. h) refl refl };
 
-    #[tactic(auto, using(wat_print::specs::Laws::Written::put_both))]
     fn write(&self, out: &mut Output) -> Result<(), Refused> {
         write_index_or_0(out, &self.table)?;
         write_signature(out, &self.ty)
     }
-}
-
-/// Writes `( result ValType* )`.
-#[tactic(auto, using(wat_print::specs::Laws::Written::put_both))]
-fn write_result(out: &mut Output, types: &[ValType]) -> Result<(), Refused>
-    ensures { Printed results_form (map val_view types.now) result out.old out.new }
-{
-    out.open()?;
-    out.word("result")?;
-    write_vals(out, types)?;
-    out.close()
 }
 
 impl PrintCode for SelectTypes<'_> {
@@ -131,12 +120,17 @@ impl PrintCode for SelectTypes<'_> {
 
     ghost grammar = { select_types };
 
-    ghost printing = { select_printing };
+    ghost printing = { printing_by select_form select_prints (λ o h. h) refl refl };
 
     fn write(&self, out: &mut Output) -> Result<(), Refused> {
         match &self.tys {
             None => Ok(()),
-            Some(types) => write_result(out, types),
+            Some(types) => {
+                out.open()?;
+                out.word("result")?;
+                write_vals(out, types)?;
+                out.close()
+            }
         }
     }
 }
@@ -148,11 +142,10 @@ impl PrintCode for RefTest<'_> {
 
     ghost grammar = { ref_type };
 
-    ghost printing = { ref_printing };
+    ghost printing = { printing_by ref_form ref_prints (λ v h. h) refl refl };
 
     fn write(&self, out: &mut Output) -> Result<(), Refused> {
-        write_ref(out, &self.type_)?;
-        Ok(())
+        write_ref(out, &self.type_)
     }
 }
 
@@ -163,11 +156,10 @@ impl PrintCode for RefCast<'_> {
 
     ghost grammar = { ref_type };
 
-    ghost printing = { ref_printing };
+    ghost printing = { printing_by ref_form ref_prints (λ v h. h) refl refl };
 
     fn write(&self, out: &mut Output) -> Result<(), Refused> {
-        write_ref(out, &self.type_)?;
-        Ok(())
+        write_ref(out, &self.type_)
     }
 }
 
@@ -178,11 +170,10 @@ impl PrintCode for RefCastDescEq<'_> {
 
     ghost grammar = { ref_type };
 
-    ghost printing = { ref_printing };
+    ghost printing = { printing_by ref_form ref_prints (λ v h. h) refl refl };
 
     fn write(&self, out: &mut Output) -> Result<(), Refused> {
-        write_ref(out, &self.type_)?;
-        Ok(())
+        write_ref(out, &self.type_)
     }
 }
 
@@ -193,11 +184,10 @@ impl PrintCode for BrOnCast<'_> {
 
     ghost grammar = { cast_branch };
 
-    ghost printing = { branch_printing };
+    ghost printing = { printing_by branch_form branch_prints (λ b h. h) refl refl };
 
     fn write(&self, out: &mut Output) -> Result<(), Refused> {
-        write_branch(out, &self.label, &self.from_type, &self.to_type)?;
-        Ok(())
+        write_branch(out, &self.label, &self.from_type, &self.to_type)
     }
 }
 
@@ -208,11 +198,10 @@ impl PrintCode for BrOnCastFail<'_> {
 
     ghost grammar = { cast_branch };
 
-    ghost printing = { branch_printing };
+    ghost printing = { printing_by branch_form branch_prints (λ b h. h) refl refl };
 
     fn write(&self, out: &mut Output) -> Result<(), Refused> {
-        write_branch(out, &self.label, &self.from_type, &self.to_type)?;
-        Ok(())
+        write_branch(out, &self.label, &self.from_type, &self.to_type)
     }
 }
 
@@ -223,11 +212,10 @@ impl PrintCode for BrOnCastDescEq<'_> {
 
     ghost grammar = { cast_branch };
 
-    ghost printing = { branch_printing };
+    ghost printing = { printing_by branch_form branch_prints (λ b h. h) refl refl };
 
     fn write(&self, out: &mut Output) -> Result<(), Refused> {
-        write_branch(out, &self.label, &self.from_type, &self.to_type)?;
-        Ok(())
+        write_branch(out, &self.label, &self.from_type, &self.to_type)
     }
 }
 
@@ -238,10 +226,9 @@ impl PrintCode for BrOnCastDescEqFail<'_> {
 
     ghost grammar = { cast_branch };
 
-    ghost printing = { branch_printing };
+    ghost printing = { printing_by branch_form branch_prints (λ b h. h) refl refl };
 
     fn write(&self, out: &mut Output) -> Result<(), Refused> {
-        write_branch(out, &self.label, &self.from_type, &self.to_type)?;
-        Ok(())
+        write_branch(out, &self.label, &self.from_type, &self.to_type)
     }
 }

@@ -5,7 +5,6 @@ ghost use Rattle.std.specs.Prelude.{string_bytes};
 ghost use Rattle.wat_instr.specs.Instruction.{instruction_view};
 ghost use Rattle.wat_expr.specs.Expression.{expression_view, hint_view};
 ghost use Rattle.wat_expr.specs.ExpressionProduction.{expression};
-ghost use Rattle.wat_expr.specs.Items.{is_branch};
 ghost use Rattle.wat_print.specs.Layout.{Writes};
 ghost use Rattle.wat_print.specs.Parts.{spell_option, if_some};
 ghost use Rattle.wat_print.specs.Printed.{NoneSpells};
@@ -27,13 +26,6 @@ use wat_mnemonics::{IndexedOp, LabelOp, Op, ScalarOp};
 use wat_print::{Layout, Output, Refused};
 use wat_tokens::Fault;
 use wat_tokens::whole_text::read_text;
-
-/// Whether the instruction is `br_if` or `if`.
-fn may_branch(instr: &Instruction) -> bool
-    ensures { result ≡ is_branch (instruction_view instr.now) }
-{
-    instr.is_br_if() || instr.is_if()
-}
 
 /// Writes a hint: an annotation with a string of one byte.
 fn write_value(out: &mut Output, value: u8) -> Result<(), Refused>
@@ -57,7 +49,9 @@ fn write_hint(out: &mut Output, hint: Option<u32>, instr: &Instruction) -> Resul
 {
     match hint {
         None => Ok(()),
-        Some(value) if value < 2 && may_branch(instr) => write_value(out, value as u8),
+        Some(value) if value < 2 && (instr.is_br_if() || instr.is_if()) => {
+            write_value(out, value as u8)
+        }
         Some(_) => Err(Refused::Hint),
     }
 }

@@ -1,19 +1,24 @@
 //! Printing of folded instructions.
 
 ghost use Rattle.std.specs.Prelude.{◌≡◌, ◌≢◌, ◌&&◌, [], ◌∷◌, ◌++◌, OnOk, IfErr, IfSome};
-ghost use Rattle.std.specs.Prelude.{MatchOption, Some, None, true, false, is_some, map};
+ghost use Rattle.std.specs.Prelude.{MatchOption, Some, None, true, false, is_some, map, refl};
 ghost use Rattle.wat_instr.specs.Instruction.{instruction_view};
 ghost use Rattle.wat_expr.specs.Expression.{Expr, expression_view};
 ghost use Rattle.wat_expr.specs.Folded.{Group};
 ghost use Rattle.wat_expr.specs.FoldedProduction.{folded_instruction};
-ghost use Rattle.wat_print.specs.Parts.{each, spell_option, Wrote};
+ghost use Rattle.wat_print.specs.Form.{any, many_form};
+ghost use Rattle.wat_print.specs.Parts.{each, spell_option};
+ghost use Rattle.wat_print.specs.Printed.{printing_at_end};
+ghost use Rattle.wat_print.specs.Prints.{Printed};
 ghost use Rattle.wat_print.specs.Text.{put};
 ghost use Rattle.wat_print.specs.declared.fault.Refused.TheVariants.{Memory};
 ghost use Rattle.wat_print_instr.specs.FoldedForm.{takes_catches, is_catch, op_of, keeps_apart};
 ghost use Rattle.wat_print_instr.specs.FoldedForm.{own_groups, first_apart, catch_first};
-ghost use Rattle.wat_print_instr.specs.FoldedForm.{groups_behind, spell_own, spell_groups};
-ghost use Rattle.wat_print_instr.specs.FoldedPrinting.{folded_printing};
+ghost use Rattle.wat_print_instr.specs.FoldedForm.{groups_behind, spell_groups, printable_folded};
+ghost use Rattle.wat_print_instr.specs.FoldedForm.{spell_folded, own_form};
 ghost use Rattle.wat_print_instr.specs.InstructionForm.{printable_instruction};
+ghost use Rattle.wat_print_instr.specs.Laws.Folded.{folded_here, folded_well_formed};
+ghost use Rattle.wat_print_instr.specs.Laws.FoldedOnly.{folded_only};
 
 use crate::traits::PrintCode;
 use wat_expr::{BranchHint, FoldedInstruction};
@@ -50,10 +55,7 @@ fn keeps_apart(instr: &Instruction) -> bool
 /// Writes an instruction in a separate group.
 #[tactic(auto, using(wat_print::specs::Laws::Written::put_both))]
 fn write_own(out: &mut Output, instr: &Instruction) -> Result<(), Refused>
-    ensures written { OnOk result (out.new ≡ put out.old (spell_own (instruction_view instr.now))) }
-    ensures printable { OnOk result (printable_instruction (instruction_view instr.now) ≡ true) }
-    ensures refused { IfErr result (λ e. e ≢ Memory
-        → printable_instruction (instruction_view instr.now) ≡ false) }
+    ensures { Printed own_form (instruction_view instr.now) result out.old out.new }
 {
     out.open()?;
     instr.write(out)?;
@@ -61,11 +63,10 @@ fn write_own(out: &mut Output, instr: &Instruction) -> Result<(), Refused>
 }
 
 /// Writes instructions, each in a separate group.
+#[tactic(auto, using(crate::proofs::Walked::value_more))]
 fn write_each_own(out: &mut Output, instrs: &[Instruction]) -> Result<(), Refused>
-    ensures wrote { OnOk result (Wrote instruction_view spell_own printable_instruction instrs.now
-        out.old out.new) }
-    ensures refused { IfErr result (λ e. e ≢ Memory
-        → each printable_instruction (map instruction_view instrs.now) ≡ false) }
+    ensures { Printed (many_form any own_form) (map instruction_view instrs.now) result out.old
+        out.new }
 {
     for instr in instrs {
         write_own(out, instr)?;
@@ -100,6 +101,7 @@ fn find_apart<'b, 'a>(
 /// Writes the group of the first instruction that keeps apart. The group contains the groups of the
 /// instructions before it; the groups of the instructions after it follow. It fails with Folded if
 /// no instruction keeps apart.
+#[tactic(auto, using(crate::proofs::FoldedWritten::groups_put))]
 fn write_apart(out: &mut Output, instrs: &[Instruction]) -> Result<(), Refused>
     ensures written { OnOk result (out.new ≡ put out.old
         (spell_option spell_groups (first_apart [] (map instruction_view instrs.now)))) }
@@ -141,6 +143,7 @@ fn catch_first(last: &Instruction, instrs: &[Instruction]) -> bool
 
 /// Writes the groups of the instructions before `last`, whose group contains them. It fails with
 /// Folded if a `catch` or `catch_all` would follow a `try_table`, and no instruction keeps apart.
+#[tactic(auto, using(crate::proofs::FoldedWritten::groups_put))]
 fn write_behind(out: &mut Output, last: &Instruction, instrs: &[Instruction]) -> Result<(), Refused>
     ensures written { OnOk result (out.new ≡ put out.old (spell_option spell_groups
         (groups_behind (instruction_view last.now) (map instruction_view instrs.now)))) }
@@ -167,8 +170,10 @@ impl PrintCode for FoldedInstruction<'_> {
 
     ghost grammar = { folded_instruction };
 
-    ghost printing = { folded_printing };
+    ghost printing = { printing_at_end spell_folded printable_folded folded_well_formed (λ v h.
+        folded_here v [] h (refl, (refl, refl, refl))) folded_only };
 
+    #[tactic(auto, using(crate::proofs::FoldedWritten::groups_put))]
     fn write(&self, out: &mut Output) -> Result<(), Refused> {
         let hints: &[BranchHint] = &self.0.branch_hints;
         if !hints.is_empty() {

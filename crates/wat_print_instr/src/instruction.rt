@@ -1,16 +1,20 @@
 //! Printing of instructions.
 
+ghost use Rattle.std.specs.Prelude.{[]};
 ghost use Rattle.wat_tokens.specs.Index.{name_of};
 ghost use Rattle.wat_tokens.specs.Views.{option_view};
 ghost use Rattle.wat_instr.specs.Instruction.{Instr, op_in, operand_in, instruction_view};
 ghost use Rattle.wat_instr.specs.Instruction.{instruction, block_in};
+ghost use Rattle.wat_print.specs.Printed.{printing_at_end};
 ghost use Rattle.wat_print.specs.Prints.{Printed};
 ghost use Rattle.wat_print_instr.specs.Access.{fence_form};
 ghost use Rattle.wat_print_instr.specs.Control.{block_form, end_label_form};
-ghost use Rattle.wat_print_instr.specs.InstructionForm.{operand_form};
-ghost use Rattle.wat_print_instr.specs.InstructionPrinting.{instruction_printing};
+ghost use Rattle.wat_print_instr.specs.InstructionForm.{operand_form, printable_instruction};
+ghost use Rattle.wat_print_instr.specs.InstructionForm.{spell_instruction};
+ghost use Rattle.wat_print_instr.specs.Laws.Instruction.{ends_nothing, instruction_here};
+ghost use Rattle.wat_print_instr.specs.Laws.Instruction.{instruction_only, instruction_well_formed};
 
-use crate::access::{write_access, write_atomic, write_lane_access, write_ordering};
+use crate::access::{write_access, write_atomic, write_lane_access};
 use crate::control::write_block;
 use crate::traits::PrintCode;
 use wat_instr::{Instruction, InstructionOf};
@@ -34,7 +38,7 @@ fn write_fence(out: &mut Output, ordering: Option<Ordering>) -> Result<(), Refus
     ensures { Printed fence_form (option_view (λ o. o) ordering) result out.old out.new }
 {
     match ordering {
-        Some(ordering) => write_ordering(out, ordering),
+        Some(ordering) => ordering.write(out),
         None => Ok(()),
     }
 }
@@ -117,11 +121,12 @@ impl PrintCode for Instruction<'_> {
 
     ghost grammar = { instruction };
 
-    ghost printing = { instruction_printing };
+    ghost printing = { printing_at_end spell_instruction printable_instruction
+        instruction_well_formed (λ v h. instruction_here v [] h ends_nothing) instruction_only };
 
+    #[tactic(auto, using(crate::specs::Laws::Instruction::instruction_put))]
     fn write(&self, out: &mut Output) -> Result<(), Refused> {
         out.word(self.mnemonic())?;
-        write_operand(out, self)?;
-        Ok(())
+        write_operand(out, self)
     }
 }

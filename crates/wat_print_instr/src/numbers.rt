@@ -1,15 +1,19 @@
 //! Printing of numbers.
 
-ghost use Rattle.std.specs.Prelude.{◌≡◌, ◌∷◌, [], ℕ, ℤ, OnOk, IfErr};
+ghost use Rattle.std.specs.Prelude.{◌≡◌, ◌∷◌, [], ℕ, ℤ, OnOk, IfErr, refl};
 ghost use Rattle.std.specs.Fmt.{signed_decimal};
+ghost use Rattle.std.proofs.Common.{lit≤};
 ghost use Rattle.wat_lexer.specs.Token.{Integer};
 ghost use Rattle.wat_tokens.specs.Floats.{none};
 ghost use Rattle.wat_tokens.specs.Integers.{signed, unsigned};
+ghost use Rattle.wat_print.specs.Printed.{printing_by};
 ghost use Rattle.wat_print.specs.Text.{put};
 ghost use Rattle.wat_print.specs.declared.fault.Refused.TheVariants.{Memory};
-ghost use Rattle.wat_print_instr.specs.Printings.{i8_printing, i16_printing, i32_printing};
-ghost use Rattle.wat_print_instr.specs.Printings.{i64_printing, u8_printing, u16_printing};
-ghost use Rattle.wat_print_instr.specs.Printings.{u32_printing, u64_printing, float_printing};
+ghost use Rattle.wat_print_instr.specs.Numbers.{signed_form, unsigned_form};
+ghost use Rattle.wat_print_instr.specs.Vectors.{never_form};
+ghost use Rattle.wat_print_instr.specs.Laws.Numbers.{halves_16, halves_32, halves_64, halves_8};
+ghost use Rattle.wat_print_instr.specs.Laws.Numbers.{signed_prints, unsigned_prints};
+ghost use Rattle.wat_print_instr.specs.Laws.Vectors.{none_prints};
 
 use crate::traits::PrintCode;
 use wat_print::{Output, Refused};
@@ -30,7 +34,8 @@ impl PrintCode for i8 {
 
     ghost grammar = { signed 8 };
 
-    ghost printing = { i8_printing };
+    ghost printing = { printing_by (signed_form 8) (signed_prints 8 halves_8) (λ z h. h) refl
+        refl };
 
     fn write(&self, out: &mut Output) -> Result<(), Refused> {
         write_signed(out, i64::from(*self))
@@ -44,7 +49,8 @@ impl PrintCode for i16 {
 
     ghost grammar = { signed 16 };
 
-    ghost printing = { i16_printing };
+    ghost printing = { printing_by (signed_form 16) (signed_prints 16 halves_16) (λ z h. h) refl
+        refl };
 
     fn write(&self, out: &mut Output) -> Result<(), Refused> {
         write_signed(out, i64::from(*self))
@@ -58,7 +64,8 @@ impl PrintCode for i32 {
 
     ghost grammar = { signed 32 };
 
-    ghost printing = { i32_printing };
+    ghost printing = { printing_by (signed_form 32) (signed_prints 32 halves_32) (λ z h. h) refl
+        refl };
 
     fn write(&self, out: &mut Output) -> Result<(), Refused> {
         write_signed(out, i64::from(*self))
@@ -72,11 +79,11 @@ impl PrintCode for i64 {
 
     ghost grammar = { signed 64 };
 
-    ghost printing = { i64_printing };
+    ghost printing = { printing_by (signed_form 64) (signed_prints 64 halves_64) (λ z h. h) refl
+        refl };
 
     fn write(&self, out: &mut Output) -> Result<(), Refused> {
-        write_signed(out, *self)?;
-        Ok(())
+        write_signed(out, *self)
     }
 }
 
@@ -87,11 +94,11 @@ impl PrintCode for u8 {
 
     ghost grammar = { unsigned 8 };
 
-    ghost printing = { u8_printing };
+    ghost printing = { printing_by (unsigned_form 8) (unsigned_prints 8 (lit≤ tt) (lit≤ tt)) (λ n h.
+        h) refl refl };
 
     fn write(&self, out: &mut Output) -> Result<(), Refused> {
-        let number = u64::from(*self);
-        out.number(number)
+        out.number(u64::from(*self))
     }
 }
 
@@ -102,11 +109,11 @@ impl PrintCode for u16 {
 
     ghost grammar = { unsigned 16 };
 
-    ghost printing = { u16_printing };
+    ghost printing = { printing_by (unsigned_form 16) (unsigned_prints 16 (lit≤ tt) (lit≤ tt)) (λ n
+        h. h) refl refl };
 
     fn write(&self, out: &mut Output) -> Result<(), Refused> {
-        out.number(u64::from(*self))?;
-        Ok(())
+        out.number(u64::from(*self))
     }
 }
 
@@ -117,11 +124,11 @@ impl PrintCode for u32 {
 
     ghost grammar = { unsigned 32 };
 
-    ghost printing = { u32_printing };
+    ghost printing = { printing_by (unsigned_form 32) (unsigned_prints 32 (lit≤ tt) (lit≤ tt)) (λ n
+        h. h) refl refl };
 
     fn write(&self, out: &mut Output) -> Result<(), Refused> {
-        out.number(u64::from(*self))?;
-        Ok(())
+        out.number(u64::from(*self))
     }
 }
 
@@ -132,11 +139,11 @@ impl PrintCode for u64 {
 
     ghost grammar = { unsigned 64 };
 
-    ghost printing = { u64_printing };
+    ghost printing = { printing_by (unsigned_form 64) (unsigned_prints 64 (lit≤ tt) (lit≤ tt)) (λ n
+        h. h) refl refl };
 
     fn write(&self, out: &mut Output) -> Result<(), Refused> {
-        out.number(*self)?;
-        Ok(())
+        out.number(*self)
     }
 }
 
@@ -148,7 +155,7 @@ impl PrintCode for F32 {
 
     ghost grammar = { none };
 
-    ghost printing = { float_printing };
+    ghost printing = { printing_by never_form none_prints (λ x h. h) refl refl };
 
     fn write(&self, out: &mut Output) -> Result<(), Refused> {
         let _ = out;
@@ -164,7 +171,7 @@ impl PrintCode for F64 {
 
     ghost grammar = { none };
 
-    ghost printing = { float_printing };
+    ghost printing = { printing_by never_form none_prints (λ x h. h) refl refl };
 
     fn write(&self, out: &mut Output) -> Result<(), Refused> {
         let _ = out;

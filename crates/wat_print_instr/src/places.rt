@@ -1,6 +1,7 @@
 //! Printing of operands that consist of indices, and of an array's type and length.
+#![tactic(auto, using(wat_print::specs::Laws::Written::put_both))]
 
-ghost use Rattle.std.specs.Prelude.{◌≡◌, ℕ};
+ghost use Rattle.std.specs.Prelude.{◌≡◌, ℕ, refl};
 ghost use Rattle.wat_tokens.specs.Index.{Idx, index_view, index};
 ghost use Rattle.wat_operands.specs.Aggregates.{struct_access_view, cont_bind_view, switch_view};
 ghost use Rattle.wat_operands.specs.Aggregates.{array_fill_view, array_copy_view, array_init_view};
@@ -11,13 +12,15 @@ ghost use Rattle.wat_operands.specs.BranchTable.{br_table};
 ghost use Rattle.wat_operands.specs.Tables.{index_or_0, index_pair, init, copy, table_arg_view};
 ghost use Rattle.wat_operands.specs.Tables.{memory_arg_view, table_init_view, memory_init_view};
 ghost use Rattle.wat_operands.specs.Tables.{table_copy_view, memory_copy_view};
-ghost use Rattle.wat_print.specs.Printings.{index_printing};
+ghost use Rattle.wat_print.specs.Index.{index_form};
+ghost use Rattle.wat_print.specs.Printed.{printing_by};
 ghost use Rattle.wat_print.specs.Prints.{Printed};
+ghost use Rattle.wat_print.specs.Laws.Reference.{index_prints};
 ghost use Rattle.wat_print_instr.specs.Places.{is_index_0, index_or_0_form, pair_form, init_form};
-ghost use Rattle.wat_print_instr.specs.Places.{copy_form};
-ghost use Rattle.wat_print_instr.specs.Printings.{index_or_0_printing, pair_printing};
-ghost use Rattle.wat_print_instr.specs.Printings.{init_printing, copy_printing, sized_printing};
-ghost use Rattle.wat_print_instr.specs.Printings.{br_table_printing};
+ghost use Rattle.wat_print_instr.specs.Places.{copy_form, br_table_form, sized_form};
+ghost use Rattle.wat_print_instr.specs.Laws.Places.{br_table_prints, copy_prints};
+ghost use Rattle.wat_print_instr.specs.Laws.Places.{index_or_0_prints, init_prints, pair_prints};
+ghost use Rattle.wat_print_instr.specs.Laws.Places.{sized_prints};
 
 use crate::traits::{PrintCode, write_each};
 use wat_operands::{
@@ -47,7 +50,6 @@ pub fn write_index_or_0(out: &mut Output, index: &Index) -> Result<(), Refused>
 }
 
 /// Writes two indices.
-#[tactic(auto, using(wat_print::specs::Laws::Written::put_both))]
 fn write_pair(out: &mut Output, first: &Index, second: &Index) -> Result<(), Refused>
     ensures { Printed pair_form (index_view first.now, index_view second.now) result out.old
         out.new }
@@ -85,7 +87,7 @@ impl PrintCode for Index<'_> {
 
     ghost grammar = { index };
 
-    ghost printing = { index_printing };
+    ghost printing = { printing_by index_form index_prints (λ v h. h) refl refl };
 
     fn write(&self, out: &mut Output) -> Result<(), Refused> {
         write_index(out, self)
@@ -99,11 +101,10 @@ impl PrintCode for TableArg<'_> {
 
     ghost grammar = { index_or_0 };
 
-    ghost printing = { index_or_0_printing };
+    ghost printing = { printing_by index_or_0_form index_or_0_prints (λ i h. h) refl refl };
 
     fn write(&self, out: &mut Output) -> Result<(), Refused> {
-        write_index_or_0(out, &self.dst)?;
-        Ok(())
+        write_index_or_0(out, &self.dst)
     }
 }
 
@@ -114,11 +115,10 @@ impl PrintCode for MemoryArg<'_> {
 
     ghost grammar = { index_or_0 };
 
-    ghost printing = { index_or_0_printing };
+    ghost printing = { printing_by index_or_0_form index_or_0_prints (λ i h. h) refl refl };
 
     fn write(&self, out: &mut Output) -> Result<(), Refused> {
-        write_index_or_0(out, &self.mem)?;
-        Ok(())
+        write_index_or_0(out, &self.mem)
     }
 }
 
@@ -129,11 +129,10 @@ impl PrintCode for TableInit<'_> {
 
     ghost grammar = { init };
 
-    ghost printing = { init_printing };
+    ghost printing = { printing_by init_form init_prints (λ p h. h) refl refl };
 
     fn write(&self, out: &mut Output) -> Result<(), Refused> {
-        write_init(out, &self.table, &self.elem)?;
-        Ok(())
+        write_init(out, &self.table, &self.elem)
     }
 }
 
@@ -144,11 +143,10 @@ impl PrintCode for MemoryInit<'_> {
 
     ghost grammar = { init };
 
-    ghost printing = { init_printing };
+    ghost printing = { printing_by init_form init_prints (λ p h. h) refl refl };
 
     fn write(&self, out: &mut Output) -> Result<(), Refused> {
-        write_init(out, &self.mem, &self.data)?;
-        Ok(())
+        write_init(out, &self.mem, &self.data)
     }
 }
 
@@ -159,11 +157,10 @@ impl PrintCode for TableCopy<'_> {
 
     ghost grammar = { copy };
 
-    ghost printing = { copy_printing };
+    ghost printing = { printing_by copy_form copy_prints (λ p h. h) refl refl };
 
     fn write(&self, out: &mut Output) -> Result<(), Refused> {
-        write_copy(out, &self.dst, &self.src)?;
-        Ok(())
+        write_copy(out, &self.dst, &self.src)
     }
 }
 
@@ -174,11 +171,10 @@ impl PrintCode for MemoryCopy<'_> {
 
     ghost grammar = { copy };
 
-    ghost printing = { copy_printing };
+    ghost printing = { printing_by copy_form copy_prints (λ p h. h) refl refl };
 
     fn write(&self, out: &mut Output) -> Result<(), Refused> {
-        write_copy(out, &self.dst, &self.src)?;
-        Ok(())
+        write_copy(out, &self.dst, &self.src)
     }
 }
 
@@ -189,11 +185,10 @@ impl PrintCode for StructAccess<'_> {
 
     ghost grammar = { index_pair };
 
-    ghost printing = { pair_printing };
+    ghost printing = { printing_by pair_form pair_prints (λ p h. h) refl refl };
 
     fn write(&self, out: &mut Output) -> Result<(), Refused> {
-        write_pair(out, &self.struct_, &self.field)?;
-        Ok(())
+        write_pair(out, &self.struct_, &self.field)
     }
 }
 
@@ -204,11 +199,10 @@ impl PrintCode for ContBind<'_> {
 
     ghost grammar = { index_pair };
 
-    ghost printing = { pair_printing };
+    ghost printing = { printing_by pair_form pair_prints (λ p h. h) refl refl };
 
     fn write(&self, out: &mut Output) -> Result<(), Refused> {
-        write_pair(out, &self.argument_index, &self.result_index)?;
-        Ok(())
+        write_pair(out, &self.argument_index, &self.result_index)
     }
 }
 
@@ -219,11 +213,10 @@ impl PrintCode for Switch<'_> {
 
     ghost grammar = { index_pair };
 
-    ghost printing = { pair_printing };
+    ghost printing = { printing_by pair_form pair_prints (λ p h. h) refl refl };
 
     fn write(&self, out: &mut Output) -> Result<(), Refused> {
-        write_pair(out, &self.type_index, &self.tag_index)?;
-        Ok(())
+        write_pair(out, &self.type_index, &self.tag_index)
     }
 }
 
@@ -234,11 +227,10 @@ impl PrintCode for ArrayFill<'_> {
 
     ghost grammar = { index };
 
-    ghost printing = { index_printing };
+    ghost printing = { printing_by index_form index_prints (λ v h. h) refl refl };
 
     fn write(&self, out: &mut Output) -> Result<(), Refused> {
-        write_index(out, &self.array)?;
-        Ok(())
+        write_index(out, &self.array)
     }
 }
 
@@ -249,11 +241,10 @@ impl PrintCode for ArrayCopy<'_> {
 
     ghost grammar = { index_pair };
 
-    ghost printing = { pair_printing };
+    ghost printing = { printing_by pair_form pair_prints (λ p h. h) refl refl };
 
     fn write(&self, out: &mut Output) -> Result<(), Refused> {
-        write_pair(out, &self.dest_array, &self.src_array)?;
-        Ok(())
+        write_pair(out, &self.dest_array, &self.src_array)
     }
 }
 
@@ -264,11 +255,10 @@ impl PrintCode for ArrayInit<'_> {
 
     ghost grammar = { index_pair };
 
-    ghost printing = { pair_printing };
+    ghost printing = { printing_by pair_form pair_prints (λ p h. h) refl refl };
 
     fn write(&self, out: &mut Output) -> Result<(), Refused> {
-        write_pair(out, &self.array, &self.segment)?;
-        Ok(())
+        write_pair(out, &self.array, &self.segment)
     }
 }
 
@@ -279,9 +269,8 @@ impl PrintCode for ArrayNewFixed<'_> {
 
     ghost grammar = { array_of_length };
 
-    ghost printing = { sized_printing };
+    ghost printing = { printing_by sized_form sized_prints (λ p h. h) refl refl };
 
-    #[tactic(auto, using(wat_print::specs::Laws::Written::put_both))]
     fn write(&self, out: &mut Output) -> Result<(), Refused> {
         write_index(out, &self.array)?;
         out.number(u64::from(self.length))
@@ -295,11 +284,10 @@ impl PrintCode for ArrayNewData<'_> {
 
     ghost grammar = { index_pair };
 
-    ghost printing = { pair_printing };
+    ghost printing = { printing_by pair_form pair_prints (λ p h. h) refl refl };
 
     fn write(&self, out: &mut Output) -> Result<(), Refused> {
-        write_pair(out, &self.array, &self.data_idx)?;
-        Ok(())
+        write_pair(out, &self.array, &self.data_idx)
     }
 }
 
@@ -310,11 +298,10 @@ impl PrintCode for ArrayNewElem<'_> {
 
     ghost grammar = { index_pair };
 
-    ghost printing = { pair_printing };
+    ghost printing = { printing_by pair_form pair_prints (λ p h. h) refl refl };
 
     fn write(&self, out: &mut Output) -> Result<(), Refused> {
-        write_pair(out, &self.array, &self.elem_idx)?;
-        Ok(())
+        write_pair(out, &self.array, &self.elem_idx)
     }
 }
 
@@ -325,9 +312,8 @@ impl PrintCode for BrTableIndices<'_> {
 
     ghost grammar = { br_table };
 
-    ghost printing = { br_table_printing };
+    ghost printing = { printing_by br_table_form br_table_prints (λ b h. h) refl refl };
 
-    #[tactic(auto, using(wat_print::specs::Laws::Written::put_both))]
     fn write(&self, out: &mut Output) -> Result<(), Refused> {
         write_each(out, &self.labels)?;
         write_index(out, &self.default)

@@ -54,7 +54,7 @@ impl<T: PrintCode> Print for Code<'_, T> {
 }
 
 /// Writes values in order. It fails with the first error of a value.
-#[tactic(auto, using(std::proofs::lemmas::List::drop_more, wat_print::specs::Laws::Written::put_both))]
+#[tactic(auto, using(crate::proofs::Walked::value_more))]
 pub fn write_each<T: PrintCode>(out: &mut Output, values: &[T]) -> Result<(), Refused>
     ensures { Printed (many_form any (exactly T.printing)) (map T.view values.now) result out.old
         out.new }

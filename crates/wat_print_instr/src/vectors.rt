@@ -1,7 +1,10 @@
 //! Printing of constants of 128 bits and of shuffled lanes.
 
+ghost use Rattle.std.specs.Prelude.{refl};
 ghost use Rattle.wat_operands.specs.Vector.{v128_const, shuffle};
-ghost use Rattle.wat_print_instr.specs.Printings.{vector_printing, shuffle_printing};
+ghost use Rattle.wat_print.specs.Printed.{printing_by};
+ghost use Rattle.wat_print_instr.specs.Vectors.{shuffle_form, vector_form};
+ghost use Rattle.wat_print_instr.specs.Laws.Vectors.{shuffle_prints, vector_prints};
 
 use crate::traits::{PrintCode, write_each};
 use wat_operands::{I8x16Shuffle, V128Const};
@@ -17,7 +20,7 @@ impl PrintCode for V128Const {
 
     ghost grammar = { v128_const };
 
-    ghost printing = { vector_printing };
+    ghost printing = { printing_by vector_form vector_prints (λ v h. h) refl refl };
 
     #[tactic(auto, using(wat_print::specs::Laws::Written::put_both))]
     fn write(&self, out: &mut Output) -> Result<(), Refused> {
@@ -53,10 +56,9 @@ impl PrintCode for I8x16Shuffle {
 
     ghost grammar = { shuffle };
 
-    ghost printing = { shuffle_printing };
+    ghost printing = { printing_by shuffle_form shuffle_prints (λ s h. h) refl refl };
 
     fn write(&self, out: &mut Output) -> Result<(), Refused> {
-        write_each(out, &self.lanes)?;
-        Ok(())
+        write_each(out, &self.lanes)
     }
 }

@@ -1,4 +1,4 @@
 pub mod Grouped
-mod Produced
+pub mod Produced
 mod Single
-mod Unprintable
+pub mod Unprintable

@@ -1,11 +1,10 @@
 -- Fields that can't be written, by their numbers.
-use Rattle.std.specs.Prelude.{◌≡◌, ℕ, zero, suc, ◌<◌, false, List, [], ◌∷◌, length, map, Option}
-use Rattle.std.specs.Prelude.{Some, None, slice_get}
-use Rattle.std.proofs.Common.{refl, ap, subst, sym, ◌∙◌, get_or, arith}
+use Rattle.std.specs.Prelude.{◌≡◌, ℕ, zero, suc, ◌<◌, false, List, [], ◌∷◌, length, map, Some}
+use Rattle.std.specs.Prelude.{slice_get}
+use Rattle.std.proofs.Common.{refl, ap, sym, ◌∙◌, get_or, arith}
 use Rattle.wat_core.specs.Field.{ModuleField, field_view}
-use Rattle.wat_core.specs.Module.{ModuleTy}
 use Rattle.wat_print_module.specs.Field.{field_form}
-use Rattle.wat_print_module.specs.Module.{fields_of_kind, UnprintableField, UnprintablePart}
+use Rattle.wat_print_module.specs.Module.{UnprintableField}
 
 get_seen : {X A : Type 0} (view : X → A) (xs : List X) (i : ℕ) (d : X) → i < length xs
     → slice_get (map view xs) i ≡ Some (view (get_or xs i d))
@@ -13,19 +12,11 @@ get_seen view [] i d lt = absurd (omega arith)
 get_seen view (x ∷ xs) zero d lt = refl
 get_seen view (x ∷ xs) (suc i) d lt = get_seen view xs i d (omega arith)
 
-pub unprintable_at : (fs : List ModuleField) (i : ℕ) (x : ModuleField) (o : Option ℕ)
-    → i < length fs
-    → x ≡ get_or fs i x → o ≡ Some i → field_form.printable (field_view x) ≡ false
-    → UnprintableField (map field_view fs) o
-unprintable_at fs i x o lt s e f =
-    subst (λ (p : Option ℕ). UnprintableField (map field_view fs) p) (sym e) (
-      field_view x,
-      get_seen field_view fs i x lt
-          ∙ ap (λ (y : ModuleField). Some (field_view y)) (sym s),
-      f,
-    )
-
-pub part_of_field : (m : ModuleTy) (o : Option ℕ) → UnprintableField (fields_of_kind m.kind) o
-    → UnprintablePart m o
-part_of_field m (Some i) u = u
-part_of_field m None u = absurd u
+pub unprintable_at : (fs : List ModuleField) (i : ℕ) (x : ModuleField) → i < length fs
+    → x ≡ get_or fs i x → field_form.printable (field_view x) ≡ false
+    → UnprintableField (map field_view fs) (Some i)
+unprintable_at fs i x lt s f = (
+  field_view x,
+  get_seen field_view fs i x lt ∙ ap (λ (y : ModuleField). Some (field_view y)) (sym s),
+  f,
+)

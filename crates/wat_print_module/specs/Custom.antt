@@ -11,7 +11,7 @@ use Rattle.wat_print_module.specs.CustomPlace.{place_group_form}
 use Rattle.wat_print_module.specs.Dylink.{dylink_form}
 use Rattle.wat_print_module.specs.Producers.{ProducedTy, producers_form}
 use Rattle.wat_print.specs.Strings.{string_form, text_form}
-use Rattle.wat_print_module.specs.Annotation.{annotation_form}
+use Rattle.wat_print.specs.Annotation.{annotation_form}
 
 -- strings of bytes
 abbrev pub pieces_form : Form (List (List ℕ))

@@ -8,8 +8,9 @@ use Rattle.wat_links.specs.Entries.{EntryTy, of_export, of_import, other, entrie
 use Rattle.wat_print.specs.Form.{Form, seq_form, by, by_where, else_form, filled_form, many_form}
 use Rattle.wat_print.specs.Form.{group_form}
 use Rattle.wat_print.specs.Strings.{text_form}
+use Rattle.wat_print_instr.specs.Form.{plain_form}
 use Rattle.wat_print_instr.specs.Numbers.{is_unsigned, unsigned_form}
-use Rattle.wat_print_module.specs.Annotation.{annotation_form}
+use Rattle.wat_print.specs.Annotation.{annotation_form}
 
 -- ---- entries of exports and of imports
 
@@ -41,13 +42,9 @@ sizes_form w =
     by Some (filled_form (second (begins_word w))
     (group_form w (seq_form (unsigned_form 32) (unsigned_form 32))))
 
--- name*
-abbrev pub texts_form : Form (List (List ℕ))
-texts_form = many_form more text_form
-
 -- ( word name* )
 abbrev pub names_form : List ℕ → Form (List (List ℕ))
-names_form w = group_form w texts_form
+names_form w = group_form w (many_form more text_form)
 
 abbrev pub Lone : Type 0
 Lone = (ℕ × ℕ) × (ℕ × ℕ) ⊎ (List (List ℕ) ⊎ (List (List ℕ) ⊎ List ℕ))
@@ -111,13 +108,15 @@ is_apart _ _ = true
 -- the subsections are as parsed: adjacent entries of one kind form one subsection
 abbrev pub are_cut : List SubsectionTy → Bool
 are_cut [] = true
-are_cut (s ∷ ss) = (is_filled s && is_apart s ss) && are_cut ss
+are_cut (s ∷ ss) = is_filled s && (is_apart s ss && are_cut ss)
 
 abbrev pub printable_dylink : List SubsectionTy → Bool
 printable_dylink ss = entries_form.printable (flat_map entries_in ss) && are_cut ss
 
 abbrev pub subsections_form : Form (List SubsectionTy)
-subsections_form = by_where printable_dylink (flat_map entries_in) entries_form
+subsections_form =
+    plain_form (λ ss. entries_form.spell (flat_map entries_in ss)) printable_dylink
+    entries_form.follows
 
 -- @dylink.0 entries
 abbrev pub dylink_form : Form (List SubsectionTy)

@@ -8,12 +8,16 @@ use Rattle.wat_print.specs.Form.{Form, seq_form, by, many_form, group_form}
 use Rattle.wat_print.specs.Label.{label_form}
 use Rattle.wat_print.specs.Strings.{text_form}
 
+-- ( word name )
+abbrev pub name_group_form : List ℕ → Form (List ℕ)
+name_group_form w = record (group_form w text_form) {
+  Fronts = λ rest test. ((n : List ℕ) (y : List Tok)
+      → test (LParen ∷ Keyword w ∷ String n ∷ RParen ∷ y) ≡ true);
+}
+
 -- ( export name )
 abbrev pub inline_name_form : Form (List ℕ)
-inline_name_form = record (group_form (codes "export") text_form) {
-  Fronts = λ rest test. ((n : List ℕ) (y : List Tok)
-      → test (LParen ∷ Keyword (codes "export") ∷ String n ∷ RParen ∷ y) ≡ true);
-}
+inline_name_form = name_group_form (codes "export")
 
 -- ( export name )*
 abbrev pub inline_export_form : Form (List (List ℕ))

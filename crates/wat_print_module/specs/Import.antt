@@ -1,11 +1,12 @@
 -- How imports are written.
 use Rattle.std.specs.Prelude.{ℕ, Bool, ◌&&◌, List, codes, is_none, ◌⊎◌}
 use Rattle.std.proofs.Common.{inl, inr}
-use Rattle.wat_tokens.specs.Tests.{ends}
-use Rattle.wat_links.specs.Import.{ItemsTy, single, group1, group2, ImportsTy, item_follows}
+use Rattle.wat_tokens.specs.Tests.{ends, begins_lparen}
+use Rattle.wat_links.specs.Import.{ItemsTy, single, group1, group2, ImportsTy, item_follows, typed}
 use Rattle.wat_links.specs.Item.{SigTy}
-use Rattle.wat_print.specs.Form.{any, Form, seq_form, by, else_form, many_form, paren_form}
-use Rattle.wat_print.specs.Form.{after_form, group_form}
+use Rattle.wat_print.specs.Form.{Form, seq_form, by, else_form, many_form, paren_form, after_form}
+use Rattle.wat_print.specs.Form.{group_form, told_form}
+use Rattle.wat_print_module.specs.FieldHead.{name_group_form}
 use Rattle.wat_print_module.specs.Item.{printable_sig, sig_form}
 use Rattle.wat_print.specs.Strings.{text_form}
 
@@ -22,7 +23,7 @@ typed_items_form = many_form item_follows typed_form
 
 -- ( item name )
 abbrev pub named_form : Form (List ℕ)
-named_form = group_form (codes "item") text_form
+named_form = name_group_form (codes "item")
 
 abbrev pub named_items_form : Form (List (List ℕ))
 named_items_form = many_form item_follows named_form
@@ -39,17 +40,16 @@ abbrev pub sharing_form : Form (List (List ℕ) × SigTy)
 sharing_form = seq_form named_items_form (paren_form shared_form)
 
 abbrev pub items_parts
-    : ItemsTy → List ℕ × SigTy ⊎ (List (List ℕ × SigTy) ⊎ List (List ℕ) × SigTy)
-items_parts (single n s) = inl (n, s)
-items_parts (group1 xs) = inr (inl xs)
-items_parts (group2 s ns) = inr (inr (ns, s))
+    : ItemsTy → List (List ℕ × SigTy) ⊎ (List (List ℕ) × SigTy ⊎ List ℕ × SigTy)
+items_parts (group1 xs) = inl xs
+items_parts (group2 s ns) = inr (inl (ns, s))
+items_parts (single n s) = inr (inr (n, s))
 
--- a name and its signature; items with signatures; items and their shared signature
+-- items with signatures; items and their shared signature; a name and its signature
 abbrev pub items_form : Form ItemsTy
-items_form = record (by items_parts (else_form any single_form
-    (else_form any typed_items_form sharing_form))) {
-      follows = λ r. ends r && (single_form.follows r && typed_items_form.follows r);
-    }
+items_form =
+    by items_parts (told_form ends typed typed_items_form
+    (else_form begins_lparen sharing_form single_form))
 
 abbrev pub imports_parts : ImportsTy → List ℕ × ItemsTy
 imports_parts i = (i.from, i.items)

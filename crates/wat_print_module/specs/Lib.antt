@@ -42,6 +42,5 @@ pub mod Memory
 pub mod Module
 pub mod CustomPlace
 pub mod Producers
-pub mod Annotation
 pub mod Table
 pub mod Tag

@@ -13,13 +13,11 @@ use Rattle.wat_print.specs.Limits.{width_form, page_form, memory_form}
 use Rattle.wat_print_module.specs.DataVal.{data_vals_form}
 use Rattle.wat_print_module.specs.FieldHead.{inline_import_form, head_form}
 
--- ( data DataVal* )
-abbrev pub data_group_form : Form (List DataValTy)
-data_group_form = group_form (codes "data") data_vals_form
-
 -- i64? pagesize? ( data DataVal* )
 abbrev pub inline_memory_form : Form (Bool × (Option ℕ × List DataValTy))
-inline_memory_form = behind_form begins_lparen width_form (seq_form page_form data_group_form)
+inline_memory_form =
+    behind_form begins_lparen width_form
+    (seq_form page_form (group_form (codes "data") data_vals_form))
 
 abbrev pub MemoryTree : Type 0
 MemoryTree =

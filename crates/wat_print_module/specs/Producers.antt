@@ -1,10 +1,9 @@
 -- How the `producers` section is written.
-use Rattle.std.specs.Prelude.{◌≡◌, ℕ, Bool, true, not, ◌&&◌, if◌then◌else◌, List, [], ◌∷◌, codes}
-use Rattle.std.specs.Prelude.{flat_map, Vec}
+use Rattle.std.specs.Prelude.{ℕ, Bool, not, ◌&&◌, if◌then◌else◌, List, [], ◌∷◌, codes, flat_map}
+use Rattle.std.specs.Prelude.{Vec}
 use Rattle.std.specs.Borrow.{Bor}
 use Rattle.std.specs.Str.{bytes_eq}
 use Rattle.std.specs.declared.alloc.Global.{Global}
-use Rattle.wat_lexer.specs.Token.{Tok, LParen}
 use Rattle.wat_tokens.specs.Tests.{more}
 use Rattle.wat_tokens.specs.Views.{no_items}
 use Rattle.wat_links.specs.ProducerEntry.{Versioned}
@@ -12,7 +11,8 @@ use Rattle.wat_links.specs.Producers.{names_view}
 use Rattle.wat_print.specs.Form.{any, Form, seq_form, many_form, group_form}
 use Rattle.wat_print.specs.Parts.{each}
 use Rattle.wat_print.specs.Strings.{text_form}
-use Rattle.wat_print_module.specs.Annotation.{annotation_form}
+use Rattle.wat_print_instr.specs.Form.{plain_form}
+use Rattle.wat_print.specs.Annotation.{annotation_form}
 
 -- a field: its word and its entries
 abbrev pub ProducedTy : Type 0
@@ -35,20 +35,9 @@ produced_form w = group_form w versioned_form
 
 -- the entries of a field; a field has an entry
 abbrev pub field_form : Form ProducedTy
-field_form = record {
-  spell = λ f. flat_map (produced_form f.0).spell f.1;
-  printable = λ f. not (no_items f.1) && each versioned_form.printable f.1;
-  ready = λ f. not (no_items f.1) && each versioned_form.printable f.1;
-  follows = any;
-  empty = true;
-  balanced = true;
-  Fronts = λ rest test. ((y : List Tok) → test (LParen ∷ y) ≡ true);
-}
-
--- the first field, if the field has the word
-abbrev pub field_of_word : List ℕ → List ProducedTy → List ProducedTy
-field_of_word w [] = []
-field_of_word w (f ∷ fs) = if bytes_eq f.0 w then f ∷ [] else []
+field_form =
+    plain_form (λ f. flat_map (produced_form f.0).spell f.1)
+    (λ f. not (no_items f.1) && each versioned_form.printable f.1) any
 
 -- the fields after the first field, if the first field has the word; else all fields
 abbrev pub fields_behind : List ℕ → List ProducedTy → List ProducedTy
@@ -56,22 +45,21 @@ fields_behind w [] = []
 fields_behind w (f ∷ fs) = if bytes_eq f.0 w then fs else f ∷ fs
 
 -- fields with these words, in this order, each at most once
-abbrev pub printable_in_turn : List (List ℕ) → List ProducedTy → Bool
-printable_in_turn [] fs = no_items fs
-printable_in_turn (w ∷ ws) fs =
-    each field_form.printable (field_of_word w fs) && printable_in_turn ws (fields_behind w fs)
-
-abbrev pub printable_producers : List ProducedTy → Bool
-printable_producers fs =
-    printable_in_turn (codes "language" ∷ codes "sdk" ∷ codes "processed-by" ∷ []) fs
+abbrev pub are_in_turn : List ProducedTy → Bool
+are_in_turn fs =
+    no_items (fields_behind (codes "processed-by")
+    (fields_behind (codes "sdk") (fields_behind (codes "language") fs)))
 
 -- ---- the section
 
+abbrev pub all_fields_form : Form (List ProducedTy)
+all_fields_form = many_form more field_form
+
+abbrev pub printable_producers : List ProducedTy → Bool
+printable_producers fs = all_fields_form.printable fs && are_in_turn fs
+
 abbrev pub fields_form : Form (List ProducedTy)
-fields_form = record (many_form more field_form) {
-  printable = printable_producers;
-  ready = printable_producers;
-}
+fields_form = plain_form all_fields_form.spell printable_producers all_fields_form.follows
 
 -- @producers entries
 abbrev pub producers_form : Form (List ProducedTy)

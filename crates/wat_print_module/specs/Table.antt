@@ -1,15 +1,14 @@
 -- How tables are written.
-use Rattle.std.specs.Prelude.{ℕ, Bool, false, not, ◌&&◌, ◌==◌, if◌then◌else◌, List, [], ◌∷◌, codes}
-use Rattle.std.specs.Prelude.{Option, ◌⊎◌}
+use Rattle.std.specs.Prelude.{ℕ, Bool, false, not, ◌&&◌, List, [], ◌∷◌, codes, Option, ◌⊎◌}
+use Rattle.std.specs.Str.{bytes_eq}
 use Rattle.std.proofs.Common.{inl, inr}
+use Rattle.std.proofs.Math.Bool.{beq}
 use Rattle.wat_tokens.specs.Index.{Idx, same_index}
 use Rattle.wat_tokens.specs.Tests.{begins_lparen}
 use Rattle.wat_tokens.specs.Views.{no_items}
-use Rattle.wat_types.specs.Heap.{HeapTy, concrete, exact, abstract_}
+use Rattle.wat_types.specs.Heap.{HeapTy, concrete, exact, abstract_, abstract_word}
 use Rattle.wat_types.specs.Limits.{TableTy}
 use Rattle.wat_types.specs.Reference.{RefTy, begins_ref}
-use Rattle.wat_types.specs.declared.heap.AbstractHeapType.{AbstractHeapType}
-use Rattle.wat_types.specs.declared.heap.AbstractHeapType.TheVariants as word
 use Rattle.wat_links.specs.FieldHead.{FieldHeadTy}
 use Rattle.wat_expr.specs.Expression.{Expr}
 use Rattle.wat_fields.specs.Payload.{PayloadTy, indices, exprs, is_funcref}
@@ -34,35 +33,14 @@ where_form ok p = record p {
 
 -- ---- equality of reference types
 
--- the number of an abstract heap type
-abbrev pub heap_number : AbstractHeapType → ℕ
-heap_number word.Func = 0
-heap_number word.Extern = 1
-heap_number word.Exn = 2
-heap_number word.Cont = 3
-heap_number word.Any = 4
-heap_number word.Eq = 5
-heap_number word.Struct = 6
-heap_number word.Array = 7
-heap_number word.I31 = 8
-heap_number word.NoFunc = 9
-heap_number word.NoExtern = 10
-heap_number word.None = 11
-heap_number word.NoExn = 12
-heap_number word.NoCont = 13
-
--- both flags are equal
-abbrev pub same_flag : Bool → Bool → Bool
-same_flag a b = if a then b else not b
-
 abbrev pub same_heap : HeapTy → HeapTy → Bool
 same_heap (concrete i) (concrete j) = same_index i j
 same_heap (exact i) (exact j) = same_index i j
-same_heap (abstract_ a t) (abstract_ b u) = same_flag a b && (heap_number t == heap_number u)
+same_heap (abstract_ a t) (abstract_ b u) = beq a b && bytes_eq (abstract_word t) (abstract_word u)
 same_heap _ _ = false
 
 abbrev pub same_ref : RefTy → RefTy → Bool
-same_ref t u = same_flag t.nullable u.nullable && same_heap t.heap u.heap
+same_ref t u = beq t.nullable u.nullable && same_heap t.heap u.heap
 
 -- ---- elements
 

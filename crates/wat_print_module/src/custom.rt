@@ -37,7 +37,7 @@ impl PrintPart for Custom<'_> {
 
     ghost printing = { printing_by (paren_form custom_form) custom_prints (λ v h. h) refl refl };
 
-    #[tactic(auto, using(wat_print::specs::Laws::Written::puts_put, wat_print::specs::Laws::Written::put_both))]
+    #[tactic(auto, using(crate::proofs::Grouped::on_one_line))]
     fn write(&self, out: &mut Output) -> Result<(), Refused> {
         out.open()?;
         write_custom(out, self)?;

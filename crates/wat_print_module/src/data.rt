@@ -50,7 +50,7 @@ fn write_memory(out: &mut Output, memory: &Index) -> Result<(), Refused>
 }
 
 /// Writes the memory and the offset of an active segment, or nothing for a passive one.
-#[tactic(auto, using(wat_print::specs::Laws::Written::puts_put, crate::proofs::Grouped::puts_first))]
+#[tactic(auto, using(crate::proofs::Grouped::in_order))]
 fn write_data_kind(out: &mut Output, kind: &DataKind) -> Result<(), Refused>
     ensures { PrintedLines data_kind_form (data_kind_view kind.now) result out.old out.new }
 {
@@ -65,7 +65,7 @@ fn write_data_kind(out: &mut Output, kind: &DataKind) -> Result<(), Refused>
 
 /// Writes a data segment, without its parentheses (Text Format, Modules, "Data Segments"). Memory 0
 /// is omitted, and the offset is written as `( offset Expression )`.
-#[tactic(auto, using(crate::proofs::Grouped::puts_word, crate::proofs::Grouped::puts_first, crate::proofs::Grouped::puts_last))]
+#[tactic(auto, using(crate::proofs::Grouped::on_lines))]
 pub fn write_data(out: &mut Output, segment: &Data) -> Result<(), Refused>
     ensures { PrintedLines data_form (data_view segment.now) result out.old out.new }
 {
@@ -94,7 +94,8 @@ impl PrintPart for Data<'_> {
 
     ghost grammar = { paren data_segment };
 
-    ghost printing = { printing_by (paren_form data_form) (paren_prints data_prints) (λ v h. h) refl refl };
+    ghost printing = { printing_by (paren_form data_form) (paren_prints data_prints) (λ v h. h) refl
+        refl };
 
     fn write(&self, out: &mut Output) -> Result<(), Refused> {
         write_grouped_data(out, self)

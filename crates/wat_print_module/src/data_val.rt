@@ -14,7 +14,7 @@ use wat_print::string::write_string;
 use wat_print::{Output, Refused};
 
 /// Writes each byte as a number.
-#[tactic(auto, using(std::proofs::lemmas::List::drop_more, wat_print::specs::Laws::Written::put_both))]
+#[tactic(auto, using(crate::proofs::Grouped::in_a_loop))]
 fn write_bytes(out: &mut Output, bytes: &[u8]) -> Result<(), Refused>
     ensures printed { Printed bytes_form bytes.now result out.old out.new }
     ensures refused { IfErr result (λ e. e ≡ Memory) }
@@ -45,7 +45,7 @@ pub fn write_data_val(out: &mut Output, value: &DataVal) -> Result<(), Refused>
 }
 
 /// Writes the values of a data segment in order.
-#[tactic(auto, using(std::proofs::lemmas::List::drop_more, wat_print::specs::Laws::Written::put_both))]
+#[tactic(auto, using(crate::proofs::Grouped::in_a_loop))]
 pub fn write_data_vals(out: &mut Output, values: &[DataVal]) -> Result<(), Refused>
     ensures printed { Printed data_vals_form (data_vals_view values.now) result out.old out.new }
     ensures refused { IfErr result (λ e. e ≡ Memory) }

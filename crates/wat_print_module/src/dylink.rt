@@ -2,16 +2,17 @@
 
 ghost use Rattle.std.specs.Prelude.{◌≡◌, List, map, flat_map, refl};
 ghost use Rattle.wat_tokens.specs.Groups.{paren};
+ghost use Rattle.wat_tokens.specs.Tests.{more};
 ghost use Rattle.wat_links.specs.Cutting.{dylink};
 ghost use Rattle.wat_links.specs.Dylink.{SubsectionTy, dylink_export_view, dylink_import_view};
 ghost use Rattle.wat_links.specs.Dylink.{subsection_view, dylink_view};
 ghost use Rattle.wat_links.specs.Entries.{of_export, of_import, entries_in};
-ghost use Rattle.wat_print.specs.Form.{paren_form};
+ghost use Rattle.wat_print.specs.Form.{paren_form, many_form};
 ghost use Rattle.wat_print.specs.Printed.{printing_by};
 ghost use Rattle.wat_print.specs.Prints.{Printed};
-ghost use Rattle.wat_print_module.specs.Dylink.{sizes_form, texts_form, names_form, export_form};
-ghost use Rattle.wat_print_module.specs.Dylink.{import_form, entries_form, dylink_form, is_filled};
-ghost use Rattle.wat_print_module.specs.Dylink.{is_apart, are_cut};
+ghost use Rattle.wat_print.specs.Strings.{text_form};
+ghost use Rattle.wat_print_module.specs.Dylink.{sizes_form, names_form, entries_form, dylink_form};
+ghost use Rattle.wat_print_module.specs.Dylink.{is_filled, is_apart, are_cut, export_form};
 ghost use Rattle.wat_print_module.specs.Laws.Dylink.{dylink_prints};
 
 use crate::traits::PrintPart;
@@ -31,9 +32,10 @@ fn write_sizes(out: &mut Output, word: &str, size: u32, align: u32) -> Result<()
 }
 
 /// Writes names in order.
-#[tactic(auto, using(std::proofs::lemmas::List::drop_more, wat_print::specs::Laws::Written::put_both))]
+#[tactic(auto, using(crate::proofs::Grouped::in_a_loop))]
 fn write_strings(out: &mut Output, names: &[&str]) -> Result<(), Refused>
-    ensures { Printed texts_form (map (λ n. n.now) names.now) result out.old out.new }
+    ensures { Printed (many_form more text_form) (map (λ n. n.now) names.now) result out.old
+        out.new }
 {
     for name in names {
         out.text(name)?;
@@ -66,7 +68,7 @@ fn write_export(out: &mut Output, entry: &(&str, u32)) -> Result<(), Refused>
 }
 
 /// Writes the entries of exports in order.
-#[tactic(auto, using(std::proofs::lemmas::List::drop_more, wat_print::specs::Laws::Written::put_both))]
+#[tactic(auto, using(crate::proofs::Grouped::in_a_loop))]
 fn write_exports(out: &mut Output, entries: &[(&str, u32)]) -> Result<(), Refused>
     ensures { Printed entries_form (map of_export (map dylink_export_view entries.now))
         result out.old out.new }
@@ -77,27 +79,20 @@ fn write_exports(out: &mut Output, entries: &[(&str, u32)]) -> Result<(), Refuse
     Ok(())
 }
 
-/// Writes `( import-info module name flags )`, the flags as one number.
-#[tactic(auto, using(wat_print::specs::Laws::Written::put_both))]
-fn write_import(out: &mut Output, entry: &(&str, &str, u32)) -> Result<(), Refused>
-    ensures { Printed import_form (dylink_import_view entry.now) result out.old out.new }
-{
-    out.open()?;
-    out.word("import-info")?;
-    out.text(entry.0)?;
-    out.text(entry.1)?;
-    out.number(u64::from(entry.2))?;
-    out.close()
-}
-
-/// Writes the entries of imports in order.
-#[tactic(auto, using(std::proofs::lemmas::List::drop_more, wat_print::specs::Laws::Written::put_both))]
+/// Writes imports in order, each as `( import-info module name flags )` with the flags as one
+/// number.
+#[tactic(auto, using(crate::proofs::Grouped::in_a_loop))]
 fn write_imports(out: &mut Output, entries: &[(&str, &str, u32)]) -> Result<(), Refused>
     ensures { Printed entries_form (map of_import (map dylink_import_view entries.now))
         result out.old out.new }
 {
     for entry in entries {
-        write_import(out, entry)?;
+        out.open()?;
+        out.word("import-info")?;
+        out.text(entry.0)?;
+        out.text(entry.1)?;
+        out.number(u64::from(entry.2))?;
+        out.close()?;
     }
     Ok(())
 }
@@ -135,7 +130,7 @@ fn write_subsection(out: &mut Output, subsection: &Dylink0Subsection) -> Result<
 }
 
 /// Writes subsections in order.
-#[tactic(auto, using(std::proofs::lemmas::List::drop_more, wat_print::specs::Laws::Written::put_both, crate::specs::Laws::Dylink::more_entries))]
+#[tactic(auto, using(crate::proofs::Grouped::in_a_loop, crate::specs::Laws::Dylink::more_entries))]
 fn write_subsections(out: &mut Output, subsections: &[Dylink0Subsection]) -> Result<(), Refused>
     ensures { Printed entries_form (flat_map entries_in (map subsection_view subsections.now))
         result out.old out.new }
@@ -207,7 +202,7 @@ impl PrintPart for Dylink0<'_> {
 
     ghost printing = { printing_by (paren_form dylink_form) dylink_prints (λ v h. h) refl refl };
 
-    #[tactic(auto, using(wat_print::specs::Laws::Written::puts_put, wat_print::specs::Laws::Written::put_both))]
+    #[tactic(auto, using(crate::proofs::Grouped::on_one_line))]
     fn write(&self, out: &mut Output) -> Result<(), Refused> {
         out.open()?;
         write_dylink(out, self)?;

@@ -58,7 +58,7 @@ pub(crate) fn write_indices(out: &mut Output, list: &[Index]) -> Result<(), Refu
 
 /// Writes the elements of a segment (Text Format, Modules, "Element Segments"): `func` and indices,
 /// or a type and items, each as `( item Expression )`.
-#[tactic(auto, using(wat_print::specs::Laws::Written::puts_put, crate::proofs::Grouped::puts_word, crate::proofs::Grouped::puts_first))]
+#[tactic(auto, using(crate::proofs::Grouped::on_lines))]
 pub fn write_payload(out: &mut Output, payload: &ElemPayload) -> Result<(), Refused>
     ensures { PrintedLines payload_form (payload_view payload.now) result out.old out.new }
 {
@@ -92,7 +92,7 @@ fn write_elem_table(out: &mut Output, table: &Option<Index>) -> Result<(), Refus
 }
 
 /// Writes the mode of a segment: nothing if it is passive, `declare`, or a table and an offset.
-#[tactic(auto, using(wat_print::specs::Laws::Written::puts_put, crate::proofs::Grouped::puts_first))]
+#[tactic(auto, using(crate::proofs::Grouped::in_order))]
 fn write_elem_kind(out: &mut Output, kind: &ElemKind) -> Result<(), Refused>
     ensures { PrintedLines elem_kind_form (elem_kind_view kind.now) result out.old out.new }
 {
@@ -108,7 +108,7 @@ fn write_elem_kind(out: &mut Output, kind: &ElemKind) -> Result<(), Refused>
 
 /// Writes an element segment, without its parentheses (Text Format, Modules, "Element Segments").
 /// The table is written if the segment has one, and the offset as `( offset Expression )`.
-#[tactic(auto, using(crate::proofs::Grouped::puts_word, crate::proofs::Grouped::puts_first, wat_print::specs::Laws::Written::puts_both))]
+#[tactic(auto, using(crate::proofs::Grouped::on_lines))]
 pub fn write_elem(out: &mut Output, elem: &Elem) -> Result<(), Refused>
     ensures { PrintedLines elem_form (elem_view elem.now) result out.old out.new }
 {
@@ -128,7 +128,6 @@ impl PrintPart for Elem<'_> {
     ghost printing = { printing_by elem_form elem_prints (λ v h. h) refl refl };
 
     fn write(&self, out: &mut Output) -> Result<(), Refused> {
-        write_elem(out, self)?;
-        Ok(())
+        write_elem(out, self)
     }
 }

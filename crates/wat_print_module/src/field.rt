@@ -60,6 +60,7 @@ fn write_inside(out: &mut Output, field: &ModuleField) -> Result<(), Refused>
 
 /// Writes a field in parentheses, on a separate line if the layout has lines (Text Format,
 /// "Modules").
+#[tactic(auto, using(crate::proofs::Grouped::puts_line_parens))]
 pub fn write_field(out: &mut Output, field: &ModuleField) -> Result<(), Refused>
     ensures { PrintedLines field_form (field_view field.now) result out.old out.new }
 {

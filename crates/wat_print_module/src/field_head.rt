@@ -1,6 +1,6 @@
 //! Printing of inline exports and imports, and of the beginning of a field.
 
-ghost use Rattle.std.specs.Prelude.{◌≡◌, ℕ, List, IfErr, map, refl};
+ghost use Rattle.std.specs.Prelude.{◌≡◌, ℕ, List, IfErr, refl};
 ghost use Rattle.wat_types.specs.Label.{label_view};
 ghost use Rattle.wat_links.specs.Export.{inline_export_view, inline_export};
 ghost use Rattle.wat_links.specs.FieldHead.{FieldHeadTy, field_head, head_view, head};
@@ -8,8 +8,8 @@ ghost use Rattle.wat_links.specs.Import.{inline_import_view, inline_import};
 ghost use Rattle.wat_print.specs.Printed.{printing_by};
 ghost use Rattle.wat_print.specs.Prints.{Printed};
 ghost use Rattle.wat_print.specs.declared.fault.Refused.TheVariants.{Memory};
-ghost use Rattle.wat_print_module.specs.FieldHead.{inline_name_form, inline_export_form};
-ghost use Rattle.wat_print_module.specs.FieldHead.{inline_import_form, head_form};
+ghost use Rattle.wat_print_module.specs.FieldHead.{inline_export_form, inline_import_form};
+ghost use Rattle.wat_print_module.specs.FieldHead.{head_form};
 ghost use Rattle.wat_print_module.specs.Laws.FieldHead.{head_prints, inline_export_prints};
 ghost use Rattle.wat_print_module.specs.Laws.FieldHead.{inline_import_prints};
 
@@ -19,39 +19,21 @@ use wat_print::label::write_label;
 use wat_print::{Output, Refused};
 use wat_tokens::{Id, NameAnnotation};
 
-/// Writes `( export name )`.
-#[tactic(auto, using(wat_print::specs::Laws::Written::put_both))]
-fn write_inline_name(out: &mut Output, name: &str) -> Result<(), Refused>
-    ensures printed { Printed inline_name_form name.now result out.old out.new }
-    ensures refused { IfErr result (λ e. e ≡ Memory) }
-{
-    out.open()?;
-    out.word("export")?;
-    out.text(name)?;
-    out.close()
-}
-
-/// Writes inline exports in order.
-#[tactic(auto, using(std::proofs::lemmas::List::drop_more, wat_print::specs::Laws::Written::put_both))]
-fn write_inline_names(out: &mut Output, names: &[&str]) -> Result<(), Refused>
-    ensures printed { Printed inline_export_form (map (λ n. n.now) names.now) result out.old
-        out.new }
-    ensures refused { IfErr result (λ e. e ≡ Memory) }
-{
-    for name in names {
-        write_inline_name(out, name)?;
-    }
-    Ok(())
-}
-
 /// Writes the inline exports of a field (Text Format, Modules, "Exports", Abbreviations):
 /// `( export name )*`.
+#[tactic(auto, using(crate::proofs::Grouped::in_a_loop))]
 pub fn write_inline_export(out: &mut Output, exports: &InlineExport) -> Result<(), Refused>
     ensures printed { Printed inline_export_form (inline_export_view exports.now) result out.old
         out.new }
     ensures refused { IfErr result (λ e. e ≡ Memory) }
 {
-    write_inline_names(out, &exports.names)
+    for name in &exports.names {
+        out.open()?;
+        out.word("export")?;
+        out.text(name)?;
+        out.close()?;
+    }
+    Ok(())
 }
 
 /// Writes the inline import of a field (Text Format, Modules, "Imports", Abbreviations):
@@ -111,8 +93,7 @@ impl PrintPart for InlineImport<'_> {
 
     #[tactic(auto, using(wat_print::specs::Laws::Written::puts_put))]
     fn write(&self, out: &mut Output) -> Result<(), Refused> {
-        write_inline_import(out, self)?;
-        Ok(())
+        write_inline_import(out, self)
     }
 }
 
@@ -127,7 +108,6 @@ impl PrintPart for FieldHead<'_> {
 
     #[tactic(auto, using(wat_print::specs::Laws::Written::puts_put))]
     fn write(&self, out: &mut Output) -> Result<(), Refused> {
-        write_head(out, &self.id, &self.name, &self.exports)?;
-        Ok(())
+        write_head(out, &self.id, &self.name, &self.exports)
     }
 }

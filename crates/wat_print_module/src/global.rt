@@ -2,54 +2,35 @@
 
 ghost use Rattle.std.specs.Prelude.{refl};
 ghost use Rattle.wat_types.specs.Storage.{global_type_view};
-ghost use Rattle.wat_links.specs.Import.{inline_import_view};
-ghost use Rattle.wat_expr.specs.Expression.{expression_view};
-ghost use Rattle.wat_fields.specs.Global.{GlobalFieldTy, imported, inline, global_kind_view};
-ghost use Rattle.wat_fields.specs.Global.{global_view, global};
+ghost use Rattle.wat_fields.specs.Global.{GlobalFieldTy, global_kind_view, global_view, global};
 ghost use Rattle.wat_print.specs.Printed.{printing_by};
-ghost use Rattle.wat_print.specs.Prints.{Printed, PrintedLines};
+ghost use Rattle.wat_print.specs.Prints.{PrintedLines};
 ghost use Rattle.wat_print_module.specs.Global.{defined_global_form, global_field_form};
 ghost use Rattle.wat_print_module.specs.Laws.Global.{global_field_prints};
 
 use crate::field_head::{write_head, write_inline_import};
 use crate::traits::PrintPart;
-use wat_expr::Expression;
 use wat_fields::{Global, GlobalKind};
-use wat_links::InlineImport;
 use wat_print::storage::write_global;
 use wat_print::{Output, Refused};
 use wat_print_instr::expression::write_constant;
 use wat_types::GlobalType;
 
-/// Writes an inline import and the type of the global.
-#[tactic(auto, using(wat_print::specs::Laws::Written::put_both))]
-fn write_imported(out: &mut Output, ty: &GlobalType, import: &InlineImport) -> Result<(), Refused>
-    ensures { Printed defined_global_form
-        (global_type_view ty.now, imported (inline_import_view import.now)) result out.old out.new }
-{
-    write_inline_import(out, import)?;
-    write_global(out, ty)
-}
-
-/// Writes the type of a global and its initial value.
-#[tactic(auto, using(crate::proofs::Grouped::on_lines))]
-fn write_inline(out: &mut Output, ty: &GlobalType, value: &Expression) -> Result<(), Refused>
-    ensures { PrintedLines defined_global_form
-        (global_type_view ty.now, inline (expression_view value.now)) result out.old out.new }
-{
-    write_global(out, ty)?;
-    write_constant(out, value)
-}
-
 /// Writes the type of a global, and its import or its initial value.
-#[tactic(auto, using(wat_print::specs::Laws::Written::puts_put))]
+#[tactic(auto, using(crate::proofs::Grouped::on_lines))]
 fn write_defined(out: &mut Output, ty: &GlobalType, kind: &GlobalKind) -> Result<(), Refused>
     ensures { PrintedLines defined_global_form
         (global_type_view ty.now, global_kind_view kind.now) result out.old out.new }
 {
     match kind {
-        GlobalKind::Import(import) => write_imported(out, ty, import),
-        GlobalKind::Inline(value) => write_inline(out, ty, value),
+        GlobalKind::Import(import) => {
+            write_inline_import(out, import)?;
+            write_global(out, ty)
+        }
+        GlobalKind::Inline(value) => {
+            write_global(out, ty)?;
+            write_constant(out, value)
+        }
     }
 }
 

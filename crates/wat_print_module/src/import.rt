@@ -8,9 +8,8 @@ ghost use Rattle.wat_links.specs.Item.{sig_view};
 ghost use Rattle.wat_print.specs.Form.{paren_form};
 ghost use Rattle.wat_print.specs.Printed.{printing_by};
 ghost use Rattle.wat_print.specs.Prints.{Printed};
-ghost use Rattle.wat_print_module.specs.Import.{typed_form, typed_items_form, named_form};
-ghost use Rattle.wat_print_module.specs.Import.{named_items_form, shared_form, items_form};
-ghost use Rattle.wat_print_module.specs.Import.{imports_form};
+ghost use Rattle.wat_print_module.specs.Import.{typed_items_form, named_items_form, shared_form};
+ghost use Rattle.wat_print_module.specs.Import.{items_form, imports_form};
 ghost use Rattle.wat_print_module.specs.Laws.Import.{imports_prints};
 
 use crate::item::write_sig_group;
@@ -18,47 +17,31 @@ use crate::traits::PrintPart;
 use wat_links::{ImportGroup1Item, ImportGroup2Item, ImportItems, ImportItemsOf, Imports, ItemSig};
 use wat_print::{Output, Refused};
 
-/// Writes an item with its signature: `( item name ( ItemSig ) )`.
-#[tactic(auto, using(wat_print::specs::Laws::Written::put_both))]
-fn write_typed(out: &mut Output, item: &ImportGroup1Item) -> Result<(), Refused>
-    ensures { Printed typed_form (typed_view item.now) result out.old out.new }
-{
-    out.open()?;
-    out.word("item")?;
-    out.text(item.name)?;
-    write_sig_group(out, &item.sig)?;
-    out.close()
-}
-
-/// Writes items with their signatures in order.
-#[tactic(auto, using(std::proofs::lemmas::List::drop_more, wat_print::specs::Laws::Written::put_both))]
+/// Writes items with their signatures in order, each as `( item name ( ItemSig ) )`.
+#[tactic(auto, using(crate::proofs::Grouped::in_a_loop))]
 fn write_typed_items(out: &mut Output, items: &[ImportGroup1Item]) -> Result<(), Refused>
     ensures { Printed typed_items_form (map typed_view items.now) result out.old out.new }
 {
     for item in items {
-        write_typed(out, item)?;
+        out.open()?;
+        out.word("item")?;
+        out.text(item.name)?;
+        write_sig_group(out, &item.sig)?;
+        out.close()?;
     }
     Ok(())
 }
 
-/// Writes an item that shares its signature: `( item name )`.
-#[tactic(auto, using(wat_print::specs::Laws::Written::put_both))]
-fn write_named(out: &mut Output, item: &ImportGroup2Item) -> Result<(), Refused>
-    ensures { Printed named_form (named_view item.now) result out.old out.new }
-{
-    out.open()?;
-    out.word("item")?;
-    out.text(item.name)?;
-    out.close()
-}
-
-/// Writes items that share a signature in order.
-#[tactic(auto, using(std::proofs::lemmas::List::drop_more, wat_print::specs::Laws::Written::put_both))]
+/// Writes items that share a signature in order, each as `( item name )`.
+#[tactic(auto, using(crate::proofs::Grouped::in_a_loop))]
 fn write_named_items(out: &mut Output, items: &[ImportGroup2Item]) -> Result<(), Refused>
     ensures { Printed named_items_form (map named_view items.now) result out.old out.new }
 {
     for item in items {
-        write_named(out, item)?;
+        out.open()?;
+        out.word("item")?;
+        out.text(item.name)?;
+        out.close()?;
     }
     Ok(())
 }

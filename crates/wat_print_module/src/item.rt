@@ -1,14 +1,13 @@
 //! Printing of the signatures of imported and exported items.
 
-ghost use Rattle.std.specs.Prelude.{◌≡◌, codes, refl};
+ghost use Rattle.std.specs.Prelude.{◌≡◌, refl};
 ghost use Rattle.wat_types.specs.Function.{function_view};
 ghost use Rattle.wat_types.specs.Use.{use_view};
 ghost use Rattle.wat_links.specs.Item.{item_kind_view, SigTy, sig_view, item_sig};
-ghost use Rattle.wat_print.specs.Form.{paren_form, group_form};
+ghost use Rattle.wat_print.specs.Form.{paren_form};
 ghost use Rattle.wat_print.specs.Printed.{printing_by};
 ghost use Rattle.wat_print.specs.Prints.{Printed};
-ghost use Rattle.wat_print.specs.Use.{use_form};
-ghost use Rattle.wat_print_module.specs.Item.{item_word, item_form, sig_form};
+ghost use Rattle.wat_print_module.specs.Item.{exact_form, item_word, item_form, sig_form};
 ghost use Rattle.wat_print_module.specs.Laws.Item.{sig_prints};
 
 use crate::traits::PrintPart;
@@ -33,12 +32,18 @@ fn word_of(kind: &ItemKind) -> &'static str
     }
 }
 
-/// Writes `( exact TypeUse )`.
+/// Writes the type of a function, as `( exact TypeUse )` if it is exact.
 #[tactic(auto, using(wat_print::specs::Laws::Written::put_both))]
-fn write_exact(out: &mut Output, ty: &TypeUse<FunctionType>) -> Result<(), Refused>
-    ensures { Printed (group_form (codes "exact") use_form) (use_view function_view ty.now) result
-        out.old out.new }
+pub(crate) fn write_exact_use(
+    out: &mut Output,
+    ty: &TypeUse<FunctionType>,
+    is_exact: bool,
+) -> Result<(), Refused>
+    ensures { Printed exact_form (use_view function_view ty.now, is_exact) result out.old out.new }
 {
+    if !is_exact {
+        return write_use(out, ty);
+    }
     out.open()?;
     out.word("exact")?;
     write_use(out, ty)?;
@@ -56,7 +61,7 @@ fn write_kind(out: &mut Output, kind: &ItemKind) -> Result<(), Refused>
         ItemKind::Memory(ty) => write_memory_type(out, ty),
         ItemKind::Global(ty) => write_global(out, ty),
         ItemKind::Tag(TagType::Exception(ty)) => write_use(out, ty),
-        ItemKind::FuncExact(ty) => write_exact(out, ty),
+        ItemKind::FuncExact(ty) => write_exact_use(out, ty, true),
     }
 }
 

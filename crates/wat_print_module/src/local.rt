@@ -10,7 +10,7 @@ ghost use Rattle.wat_print.specs.Printed.{printing_by};
 ghost use Rattle.wat_print.specs.Prints.{Printed};
 ghost use Rattle.wat_print.specs.Reference.{val_form};
 ghost use Rattle.wat_print_module.specs.Local.{local_label, local_type, listed_local_form};
-ghost use Rattle.wat_print_module.specs.Local.{local_form, locals_form, local_parser_form};
+ghost use Rattle.wat_print_module.specs.Local.{locals_form, local_parser_form};
 ghost use Rattle.wat_print_module.specs.Laws.Local.{local_parser_prints};
 
 use crate::traits::PrintPart;
@@ -29,7 +29,7 @@ fn write_listed(out: &mut Output, local: &Local) -> Result<(), Refused>
 }
 
 /// Writes locals in order, without a group.
-#[tactic(auto, using(std::proofs::lemmas::List::drop_more, wat_print::specs::Laws::Written::put_both))]
+#[tactic(auto, using(crate::proofs::Grouped::in_a_loop))]
 fn write_all_listed(out: &mut Output, locals: &[Local]) -> Result<(), Refused>
     ensures { Printed (many_form more listed_local_form) (locals_view locals.now) result out.old
         out.new }
@@ -40,24 +40,16 @@ fn write_all_listed(out: &mut Output, locals: &[Local]) -> Result<(), Refused>
     Ok(())
 }
 
-/// Writes a local in a separate group.
-#[tactic(auto, using(wat_print::specs::Laws::Written::put_both))]
-fn write_local(out: &mut Output, local: &Local) -> Result<(), Refused>
-    ensures { Printed local_form (local_view local.now) result out.old out.new }
-{
-    out.open()?;
-    out.word("local")?;
-    write_listed(out, local)?;
-    out.close()
-}
-
 /// Writes the locals of a function (Text Format, Modules, "Functions"), each in a separate group.
-#[tactic(auto, using(std::proofs::lemmas::List::drop_more, wat_print::specs::Laws::Written::put_both))]
+#[tactic(auto, using(crate::proofs::Grouped::in_a_loop))]
 pub fn write_locals(out: &mut Output, locals: &[Local]) -> Result<(), Refused>
     ensures { Printed locals_form (locals_view locals.now) result out.old out.new }
 {
     for local in locals {
-        write_local(out, local)?;
+        out.open()?;
+        out.word("local")?;
+        write_listed(out, local)?;
+        out.close()?;
     }
     Ok(())
 }
@@ -86,20 +78,8 @@ fn may_stand_together(locals: &[Local]) -> bool
     are_unlabelled(locals)
 }
 
-/// Writes the locals of one group, without its parentheses (Text Format, Modules, "Functions",
-/// Abbreviations). It fails with Label if there are several locals, and a local has an identifier
-/// or a name.
-#[tactic(auto, using(wat_print::specs::Laws::Written::put_both))]
-fn write_local_parser(out: &mut Output, group: &LocalParser) -> Result<(), Refused>
-    ensures { Printed local_parser_form (local_parser_view group.now) result out.old out.new }
-{
-    if !may_stand_together(&group.locals) {
-        return Err(Refused::Label);
-    }
-    out.word("local")?;
-    write_all_listed(out, &group.locals)
-}
-
+/// Printed without its parentheses (Text Format, Modules, "Functions", Abbreviations). Printing
+/// fails with Label if there are several locals, and a local has an identifier or a name.
 impl PrintPart for LocalParser<'_> {
     ghost View = { List LocalTy };
 
@@ -109,8 +89,12 @@ impl PrintPart for LocalParser<'_> {
 
     ghost printing = { printing_by local_parser_form local_parser_prints (λ v h. h) refl refl };
 
-    #[tactic(auto, using(wat_print::specs::Laws::Written::puts_put))]
+    #[tactic(auto, using(crate::proofs::Grouped::on_one_line))]
     fn write(&self, out: &mut Output) -> Result<(), Refused> {
-        write_local_parser(out, self)
+        if !may_stand_together(&self.locals) {
+            return Err(Refused::Label);
+        }
+        out.word("local")?;
+        write_all_listed(out, &self.locals)
     }
 }

@@ -1,74 +1,42 @@
 //! Printing of memories.
 
 ghost use Rattle.std.specs.Prelude.{refl};
-ghost use Rattle.wat_links.specs.Import.{inline_import_view};
-ghost use Rattle.wat_fields.specs.DataVal.{data_vals_view};
-ghost use Rattle.wat_fields.specs.Memory.{imported, inline, memory_kind_view, MemoryTy};
-ghost use Rattle.wat_fields.specs.Memory.{memory_view, memory};
+ghost use Rattle.wat_fields.specs.Memory.{memory_kind_view, MemoryTy, memory_view, memory};
 ghost use Rattle.wat_print.specs.Printed.{printing_by};
 ghost use Rattle.wat_print.specs.Prints.{Printed};
-ghost use Rattle.wat_print_module.specs.Memory.{data_group_form, memory_kind_form};
-ghost use Rattle.wat_print_module.specs.Memory.{memory_field_form};
+ghost use Rattle.wat_print_module.specs.Memory.{memory_kind_form, memory_field_form};
 ghost use Rattle.wat_print_module.specs.Laws.Memory.{memory_field_prints};
 
 use crate::data_val::write_data_vals;
 use crate::field_head::{write_head, write_inline_import};
 use crate::traits::PrintPart;
-use wat_fields::{DataVal, Memory, MemoryKind};
-use wat_links::InlineImport;
+use wat_fields::{Memory, MemoryKind};
 use wat_print::limits::{write_flag, write_memory_type, write_page_size};
 use wat_print::{Output, Refused};
-use wat_types::MemoryType;
-
-/// Writes an inline import and the type of the memory.
-#[tactic(auto, using(wat_print::specs::Laws::Written::put_both))]
-fn write_imported(out: &mut Output, import: &InlineImport, ty: &MemoryType) -> Result<(), Refused>
-    ensures { Printed memory_kind_form (imported (inline_import_view import.now) ty.now) result
-        out.old out.new }
-{
-    write_inline_import(out, import)?;
-    write_memory_type(out, ty)
-}
-
-/// Writes `( data DataVal* )`.
-#[tactic(auto, using(wat_print::specs::Laws::Written::put_both))]
-fn write_inline_data(out: &mut Output, values: &[DataVal]) -> Result<(), Refused>
-    ensures { Printed data_group_form (data_vals_view values.now) result out.old out.new }
-{
-    out.open()?;
-    out.word("data")?;
-    write_data_vals(out, values)?;
-    out.close()
-}
-
-/// Writes the inline data of a memory.
-#[tactic(auto, using(wat_print::specs::Laws::Written::put_both))]
-fn write_inline(
-    out: &mut Output,
-    is64: bool,
-    page_size_log2: Option<u32>,
-    values: &[DataVal],
-) -> Result<(), Refused>
-    ensures { Printed memory_kind_form
-        (inline is64 page_size_log2 (data_vals_view values.now)) result out.old out.new }
-{
-    write_flag(out, "i64", is64)?;
-    write_page_size(out, page_size_log2)?;
-    write_inline_data(out, values)
-}
 
 /// Writes the part of a memory after its identifier, name and exports.
+#[tactic(auto, using(wat_print::specs::Laws::Written::put_both))]
 fn write_memory_kind(out: &mut Output, kind: &MemoryKind) -> Result<(), Refused>
     ensures { Printed memory_kind_form (memory_kind_view kind.now) result out.old out.new }
 {
     match kind {
-        MemoryKind::Import { import, ty } => write_imported(out, import, ty),
+        MemoryKind::Import { import, ty } => {
+            write_inline_import(out, import)?;
+            write_memory_type(out, ty)
+        }
         MemoryKind::Normal(ty) => write_memory_type(out, ty),
         MemoryKind::Inline {
             is64,
             data,
             page_size_log2,
-        } => write_inline(out, *is64, *page_size_log2, data),
+        } => {
+            write_flag(out, "i64", *is64)?;
+            write_page_size(out, *page_size_log2)?;
+            out.open()?;
+            out.word("data")?;
+            write_data_vals(out, data)?;
+            out.close()
+        }
     }
 }
 

@@ -1,22 +1,21 @@
 //! Printing of modules.
 
-ghost use Rattle.std.specs.Prelude.{◌≡◌, ◌≢◌, OnOk, IfOk, IfErr, true, false, map, string_bytes};
-ghost use Rattle.std.specs.Prelude.{Some, None, refl};
+ghost use Rattle.std.specs.Prelude.{◌≡◌, ◌≢◌, OnOk, IfOk, IfErr, true, map, string_bytes, Some};
+ghost use Rattle.std.specs.Prelude.{None, refl};
 ghost use Rattle.wat_tokens.specs.Groups.{paren};
 ghost use Rattle.wat_core.specs.Field.{field_view};
 ghost use Rattle.wat_core.specs.Module.{binary, ModuleTy, module_kind_view, module_view, module_};
 ghost use Rattle.wat_core.specs.Text.{SpellsModule};
 ghost use Rattle.wat_print.specs.Layout.{Writes};
-ghost use Rattle.wat_print.specs.Parts.{each, WroteLines};
+ghost use Rattle.wat_print.specs.Parts.{WroteLines};
 ghost use Rattle.wat_print.specs.Printed.{NoneSpells, printing_by};
-ghost use Rattle.wat_print.specs.Prints.{Printed};
 ghost use Rattle.wat_print.specs.Text.{printed_text};
 ghost use Rattle.wat_print.specs.declared.fault.Refused.TheVariants.{Memory};
 ghost use Rattle.wat_print.specs.declared.output.Layout.TheVariants.{Line};
 ghost use Rattle.wat_print_module.specs.Field.{field_form};
-ghost use Rattle.wat_print_module.specs.Module.{binary_form, module_kind_form, module_form};
-ghost use Rattle.wat_print_module.specs.Module.{spell_module_group, UnprintablePart};
-ghost use Rattle.wat_print_module.specs.Module.{UnprintableField, NonePart, fields_of_kind};
+ghost use Rattle.wat_print_module.specs.Module.{module_kind_form, module_form, spell_module_group};
+ghost use Rattle.wat_print_module.specs.Module.{UnprintablePart, UnprintableField, NonePart};
+ghost use Rattle.wat_print_module.specs.Module.{fields_of_kind};
 ghost use Rattle.wat_print_module.specs.Laws.Module.{module_prints};
 
 use crate::field::write_field;
@@ -67,25 +66,8 @@ impl From<Refused> for ModuleRefused {
     }
 }
 
-/// Writes the field with the number, on a separate line if the layout has lines.
-fn write_numbered(out: &mut Output, field: &ModuleField, number: usize) -> Result<(), ModuleRefused>
-    ensures written { OnOk result (Writes (field_form.spell (field_view field.now)) out.old
-        out.new) }
-    ensures printable { OnOk result (field_form.printable (field_view field.now) ≡ true) }
-    ensures refused { IfErr result (λ e. e.reason ≢ Memory
-        → field_form.printable (field_view field.now) ≡ false) }
-    ensures number { IfErr result (λ e. e.field ≡ Some number) }
-{
-    match write_field(out, field) {
-        Ok(()) => Ok(()),
-        Err(reason) => Err(ModuleRefused {
-            reason,
-            field: Some(number),
-        }),
-    }
-}
-
 /// Writes fields, each on a separate line if the layout has lines.
+#[tactic(auto, using(crate::proofs::Unprintable::unprintable_at))]
 fn write_fields(out: &mut Output, fields: &[ModuleField]) -> Result<(), ModuleRefused>
     ensures wrote { OnOk result (WroteLines field_view field_form.spell field_form.printable
         fields.now out.old out.new) }
@@ -93,22 +75,21 @@ fn write_fields(out: &mut Output, fields: &[ModuleField]) -> Result<(), ModuleRe
         → UnprintableField (map field_view fields.now) e.field) }
 {
     for number in 0..fields.len() {
-        write_numbered(out, &fields[number], number)?;
+        match write_field(out, &fields[number]) {
+            Ok(()) => {}
+            Err(reason) => {
+                return Err(ModuleRefused {
+                    reason,
+                    field: Some(number),
+                });
+            }
+        }
     }
     Ok(())
 }
 
-/// Writes `binary` and the strings of the binary form.
-#[tactic(auto, using(wat_print::specs::Laws::Written::put_both))]
-fn write_binary(out: &mut Output, pieces: &[&[u8]]) -> Result<(), Refused>
-    ensures printed { Printed binary_form (map (λ s. s.now) pieces.now) result out.old out.new }
-    ensures refused { IfErr result (λ e. e ≡ Memory) }
-{
-    out.word("binary")?;
-    write_pieces(out, pieces)
-}
-
 /// Writes the fields or the binary form of a module.
+#[tactic(auto, using(crate::proofs::Grouped::on_lines))]
 fn write_kind(out: &mut Output, kind: &ModuleKind) -> Result<(), ModuleRefused>
     ensures written { OnOk result (Writes (module_kind_form.spell (module_kind_view kind.now))
         out.old out.new) }
@@ -123,13 +104,15 @@ fn write_kind(out: &mut Output, kind: &ModuleKind) -> Result<(), ModuleRefused>
             Ok(())
         }
         ModuleKindOf::Binary(pieces) => {
-            write_binary(out, pieces)?;
+            out.word("binary")?;
+            write_pieces(out, pieces)?;
             Ok(())
         }
     }
 }
 
 /// Writes a module without its parentheses.
+#[tactic(auto, using(crate::proofs::Grouped::on_lines))]
 fn write_content(out: &mut Output, value: &Module) -> Result<(), ModuleRefused>
     ensures written { OnOk result (Writes (module_form.spell (module_view value.now)) out.old
         out.new) }
@@ -144,6 +127,7 @@ fn write_content(out: &mut Output, value: &Module) -> Result<(), ModuleRefused>
 
 /// Writes a module in parentheses (Text Format, "Modules"), each field on a separate line if the
 /// layout has lines. It fails with the first reason that it meets.
+#[tactic(auto, using(crate::proofs::Grouped::on_lines))]
 pub fn write_module(out: &mut Output, value: &Module) -> Result<(), ModuleRefused>
     ensures written { OnOk result (Writes (spell_module_group (module_view value.now)) out.old
         out.new) }
@@ -162,6 +146,7 @@ pub fn write_module(out: &mut Output, value: &Module) -> Result<(), ModuleRefuse
 /// The tokens of the text spell the module, so [`read_module`](wat_core::read_module) returns it
 /// again. If no text spells the module, it fails with the first reason that it meets and the number
 /// of the field that no text spells. If memory runs out, it fails with Memory.
+#[tactic(auto, using(crate::specs::Laws::Module::module_none, crate::specs::Laws::Module::part_none))]
 pub fn print_module(alloc: Global, value: &Module, layout: Layout) -> Result<String, ModuleRefused>
     ensures reads_back { IfOk result (λ s. SpellsModule (string_bytes s)
         (module_view value.now)) }

@@ -1,6 +1,6 @@
 //! Printing of the `producers` section.
 
-ghost use Rattle.std.specs.Prelude.{◌≡◌, List, IfOk, map, refl};
+ghost use Rattle.std.specs.Prelude.{◌≡◌, List, map, refl};
 ghost use Rattle.wat_tokens.specs.Groups.{paren};
 ghost use Rattle.wat_tokens.specs.Tests.{more};
 ghost use Rattle.wat_links.specs.Producers.{names_view, producers_view, producers};
@@ -8,75 +8,87 @@ ghost use Rattle.wat_print.specs.Form.{many_form, paren_form};
 ghost use Rattle.wat_print.specs.Printed.{printing_by};
 ghost use Rattle.wat_print.specs.Prints.{Printed};
 ghost use Rattle.wat_print_module.specs.Producers.{ProducedTy, produced_view, produced_form};
-ghost use Rattle.wat_print_module.specs.Producers.{field_form, field_of_word, fields_behind};
-ghost use Rattle.wat_print_module.specs.Producers.{fields_form, producers_form};
+ghost use Rattle.wat_print_module.specs.Producers.{field_form, fields_behind, are_in_turn};
+ghost use Rattle.wat_print_module.specs.Producers.{all_fields_form, producers_form};
 ghost use Rattle.wat_print_module.specs.Laws.Producers.{producers_prints};
 
 use crate::traits::PrintPart;
 use wat_links::Producers;
 use wat_print::{Output, Refused};
 
-/// Writes an entry: `( word name version )`.
-#[tactic(auto, using(wat_print::specs::Laws::Written::put_both))]
-fn write_produced(out: &mut Output, word: &str, name: &str, version: &str) -> Result<(), Refused>
-    ensures { Printed (produced_form word.now) (name.now, version.now) result out.old out.new }
-{
-    out.open()?;
-    out.word(word)?;
-    out.text(name)?;
-    out.text(version)?;
-    out.close()
-}
-
-/// Writes the entries of a field.
-#[tactic(auto, using(std::proofs::lemmas::List::drop_more, wat_print::specs::Laws::Written::put_both))]
+/// Writes entries in order, each as `( word name version )`.
+#[tactic(auto, using(crate::proofs::Grouped::in_a_loop))]
 fn write_entries(out: &mut Output, word: &str, entries: &[(&str, &str)]) -> Result<(), Refused>
     ensures { Printed (many_form more (produced_form word.now)) (names_view entries.now) result
         out.old out.new }
 {
     for entry in entries {
-        write_produced(out, word, entry.0, entry.1)?;
+        out.open()?;
+        out.word(word)?;
+        out.text(entry.0)?;
+        out.text(entry.1)?;
+        out.close()?;
     }
     Ok(())
 }
 
-/// Writes the first field if the field has the word, and returns the remaining fields. It fails if
-/// the first field has the word and no entry.
-fn write_field<'f, 'a>(
-    out: &mut Output,
-    word: &str,
-    fields: &'f [(&'a str, Vec<(&'a str, &'a str)>)],
-) -> Result<&'f [(&'a str, Vec<(&'a str, &'a str)>)], Refused>
-    ensures printed { Printed (many_form more field_form)
-        (field_of_word word.now (map produced_view fields.now)) result out.old out.new }
-    ensures behind { IfOk result (λ rest. map produced_view rest.now
-        ≡ fields_behind word.now (map produced_view fields.now)) }
+/// Writes a field: its entries. It fails if the field has no entry.
+#[tactic(auto, using(crate::proofs::Produced::filled_printable))]
+fn write_field(out: &mut Output, field: &(&str, Vec<(&str, &str)>)) -> Result<(), Refused>
+    ensures { Printed field_form (produced_view field.now) result out.old out.new }
 {
-    if fields.is_empty() || fields[0].0 != word {
-        return Ok(fields);
-    }
-    if fields[0].1.is_empty() {
+    if field.1.is_empty() {
         return Err(Refused::Section);
     }
-    write_entries(out, word, &fields[0].1)?;
-    Ok(&fields[1..])
+    write_entries(out, field.0, &field.1)
 }
 
-/// Writes fields: `language`, `sdk` and `processed-by`, in this order, each at most once and with
-/// an entry. It fails for other fields.
-fn write_fields<'a>(
+/// Writes fields in order.
+#[tactic(auto, using(crate::proofs::Grouped::in_a_loop))]
+fn write_fields(out: &mut Output, fields: &[(&str, Vec<(&str, &str)>)]) -> Result<(), Refused>
+    ensures { Printed all_fields_form (map produced_view fields.now) result out.old out.new }
+{
+    for field in fields {
+        write_field(out, field)?;
+    }
+    Ok(())
+}
+
+/// The fields after the first field if the first field has the word, otherwise all fields.
+fn fields_behind<'f, 'a>(
+    word: &str,
+    fields: &'f [(&'a str, Vec<(&'a str, &'a str)>)],
+) -> &'f [(&'a str, Vec<(&'a str, &'a str)>)]
+    ensures { map produced_view result.now ≡ fields_behind word.now (map produced_view fields.now) }
+{
+    if fields.is_empty() || fields[0].0 != word {
+        return fields;
+    }
+    &fields[1..]
+}
+
+/// Whether the fields are `language`, `sdk` and `processed-by`, in this order, each at most once.
+#[tactic(auto, using(crate::proofs::Produced::empty_seen))]
+fn are_in_turn<'a>(fields: &[(&'a str, Vec<(&'a str, &'a str)>)]) -> bool
+    ensures { result ≡ are_in_turn (map produced_view fields.now) }
+{
+    let behind_languages = fields_behind("language", fields);
+    let behind_sdks = fields_behind("sdk", behind_languages);
+    fields_behind("processed-by", behind_sdks).is_empty()
+}
+
+/// Writes the section with these fields.
+fn write_section<'a>(
     out: &mut Output,
     fields: &[(&'a str, Vec<(&'a str, &'a str)>)],
 ) -> Result<(), Refused>
-    ensures { Printed fields_form (map produced_view fields.now) result out.old out.new }
+    ensures { Printed producers_form (map produced_view fields.now) result out.old out.new }
 {
-    let behind_languages = write_field(out, "language", fields)?;
-    let behind_sdks = write_field(out, "sdk", behind_languages)?;
-    let behind_all = write_field(out, "processed-by", behind_sdks)?;
-    if !behind_all.is_empty() {
+    if !are_in_turn(fields) {
         return Err(Refused::Section);
     }
-    Ok(())
+    out.annotation("producers")?;
+    write_fields(out, fields)
 }
 
 /// Writes the `producers` section, without its parentheses (Text Format, "Custom Annotation"). It
@@ -85,9 +97,7 @@ fn write_fields<'a>(
 pub fn write_producers(out: &mut Output, section: &Producers) -> Result<(), Refused>
     ensures { Printed producers_form (producers_view section.now) result out.old out.new }
 {
-    out.annotation("producers")?;
-    write_fields(out, &section.fields)?;
-    Ok(())
+    write_section(out, &section.fields)
 }
 
 /// Printed with its parentheses, since an annotation follows a `(`.
@@ -100,7 +110,7 @@ impl PrintPart for Producers<'_> {
 
     ghost printing = { printing_by (paren_form producers_form) producers_prints (λ v h. h) refl refl };
 
-    #[tactic(auto, using(wat_print::specs::Laws::Written::puts_put, wat_print::specs::Laws::Written::put_both))]
+    #[tactic(auto, using(crate::proofs::Grouped::on_one_line))]
     fn write(&self, out: &mut Output) -> Result<(), Refused> {
         out.open()?;
         write_producers(out, self)?;

@@ -17,7 +17,7 @@ use wat_print::string::write_string;
 use wat_print::{Output, Refused};
 
 /// Writes strings of bytes in order.
-#[tactic(auto, using(std::proofs::lemmas::List::drop_more, wat_print::specs::Laws::Written::put_both))]
+#[tactic(auto, using(crate::proofs::Grouped::in_a_loop))]
 pub fn write_pieces(out: &mut Output, pieces: &[&[u8]]) -> Result<(), Refused>
     ensures printed { Printed pieces_form (map (λ s. s.now) pieces.now) result out.old out.new }
     ensures refused { IfErr result (λ e. e ≡ Memory) }
@@ -51,7 +51,7 @@ impl PrintPart for RawCustomSection<'_> {
 
     ghost printing = { printing_by (paren_form raw_form) raw_prints (λ v h. h) refl refl };
 
-    #[tactic(auto, using(wat_print::specs::Laws::Written::puts_put, wat_print::specs::Laws::Written::put_both))]
+    #[tactic(auto, using(crate::proofs::Grouped::on_one_line))]
     fn write(&self, out: &mut Output) -> Result<(), Refused> {
         out.open()?;
         write_raw(out, self)?;

@@ -1,19 +1,15 @@
 //! Printing of tables.
 
 ghost use Rattle.std.specs.Prelude.{◌≡◌, ◌&&◌, codes, map, refl};
-ghost use Rattle.wat_tokens.specs.Index.{index_view};
 ghost use Rattle.wat_tokens.specs.Views.{option_view, no_items};
-ghost use Rattle.wat_types.specs.Limits.{table_type_view};
 ghost use Rattle.wat_types.specs.Reference.{ref_view};
-ghost use Rattle.wat_links.specs.Import.{inline_import_view};
 ghost use Rattle.wat_expr.specs.Expression.{expression_view};
-ghost use Rattle.wat_fields.specs.Payload.{payload_view, indices, exprs, is_funcref};
+ghost use Rattle.wat_fields.specs.Payload.{payload_view, exprs, is_funcref};
 ghost use Rattle.wat_fields.specs.Table.{inline, table_kind_view, TableFieldTy, table_view, table};
 ghost use Rattle.wat_print.specs.Form.{group_form};
 ghost use Rattle.wat_print.specs.Printed.{printing_by};
-ghost use Rattle.wat_print.specs.Prints.{Printed, PrintedLines};
+ghost use Rattle.wat_print.specs.Prints.{PrintedLines};
 ghost use Rattle.wat_print_module.specs.Table.{same_ref, elements_form, initial_form};
-ghost use Rattle.wat_print_module.specs.Table.{normal_table_form, imported_table_form};
 ghost use Rattle.wat_print_module.specs.Table.{table_kind_form, table_field_form};
 ghost use Rattle.wat_print_module.specs.Laws.Table.{table_field_prints};
 
@@ -22,31 +18,17 @@ use crate::field_head::{write_head, write_inline_import};
 use crate::traits::PrintPart;
 use wat_expr::Expression;
 use wat_fields::{ElemPayload, Table, TableKind, is_funcref};
-use wat_links::InlineImport;
 use wat_print::limits::{write_flag, write_table_type};
 use wat_print::reference::write_ref;
 use wat_print::{Output, Refused};
 use wat_print_instr::expression::write_constant;
-use wat_tokens::Index;
-use wat_types::{RefType, TableType};
+use wat_types::RefType;
 
 /// Whether two reference types are the same, spans aside.
 fn same_type(a: &RefType, b: &RefType) -> bool
     ensures { result ≡ same_ref (ref_view a.now) (ref_view b.now) }
 {
     a == b
-}
-
-/// Writes the indices of an inline table with the element type. It fails unless the type is
-/// `funcref`.
-fn write_functions(out: &mut Output, ty: &RefType, list: &[Index]) -> Result<(), Refused>
-    ensures { Printed (elements_form (ref_view ty.now)) (indices (map index_view list.now)) result
-        out.old out.new }
-{
-    if !is_funcref(*ty) {
-        return Err(Refused::Table);
-    }
-    write_indices(out, list)
 }
 
 /// Whether the type is `funcref`, and there is no expression.
@@ -57,36 +39,29 @@ fn is_bare_funcref(ty: &RefType, list: &[Expression]) -> bool
     is_funcref(*ty) && list.is_empty()
 }
 
-/// Writes the expressions of an inline table with the element type. It fails if the expressions
-/// have another type, or if the type is `funcref` and there is no expression.
-#[tactic(auto, using(crate::specs::Laws::Table::items_written))]
-fn write_listed_items(
-    out: &mut Output,
-    ty: &RefType,
-    own: &RefType,
-    list: &[Expression],
-) -> Result<(), Refused>
-    ensures { PrintedLines (elements_form (ref_view ty.now))
-        (exprs (ref_view own.now) (map expression_view list.now)) result out.old out.new }
-{
-    if !same_type(ty, own) {
-        return Err(Refused::Table);
-    }
-    if is_bare_funcref(ty, list) {
-        return Err(Refused::Table);
-    }
-    write_items(out, list)
-}
-
-/// Writes the elements of an inline table with the element type: indices or items.
-#[tactic(auto, using(wat_print::specs::Laws::Written::puts_put))]
+/// Writes the elements of an inline table with the element type: indices or expressions. It fails
+/// in these cases:
+/// - there are indices, and the type isn't `funcref`;
+/// - the expressions have another type;
+/// - there is no expression, and the type is `funcref`.
+#[tactic(auto, using(crate::specs::Laws::Table::items_written, crate::proofs::Grouped::on_lines))]
 fn write_elements(out: &mut Output, ty: &RefType, payload: &ElemPayload) -> Result<(), Refused>
     ensures { PrintedLines (elements_form (ref_view ty.now)) (payload_view payload.now) result
         out.old out.new }
 {
     match payload {
-        ElemPayload::Indices(list) => write_functions(out, ty, list),
-        ElemPayload::Exprs { ty: own, exprs } => write_listed_items(out, ty, own, exprs),
+        ElemPayload::Indices(list) => {
+            if !is_funcref(*ty) {
+                return Err(Refused::Table);
+            }
+            write_indices(out, list)
+        }
+        ElemPayload::Exprs { ty: own, exprs } => {
+            if !same_type(ty, own) || is_bare_funcref(ty, exprs) {
+                return Err(Refused::Table);
+            }
+            write_items(out, exprs)
+        }
     }
 }
 
@@ -142,34 +117,20 @@ fn write_initial(out: &mut Output, value: &Option<Expression>) -> Result<(), Ref
     }
 }
 
-/// Writes a table type and the initial value of the elements.
-#[tactic(auto, using(crate::proofs::Grouped::puts_first))]
-fn write_normal(out: &mut Output, ty: &TableType, value: &Option<Expression>) -> Result<(), Refused>
-    ensures { PrintedLines normal_table_form
-        (table_type_view ty.now, option_view expression_view value.now) result out.old out.new }
-{
-    write_table_type(out, ty)?;
-    write_initial(out, value)
-}
-
-/// Writes an inline import and the type of the table.
-#[tactic(auto, using(wat_print::specs::Laws::Written::put_both))]
-fn write_imported(out: &mut Output, import: &InlineImport, ty: &TableType) -> Result<(), Refused>
-    ensures { Printed imported_table_form (inline_import_view import.now, table_type_view ty.now)
-        result out.old out.new }
-{
-    write_inline_import(out, import)?;
-    write_table_type(out, ty)
-}
-
 /// Writes the part of a table after its identifier, name and exports.
-#[tactic(auto, using(wat_print::specs::Laws::Written::puts_put))]
+#[tactic(auto, using(crate::proofs::Grouped::on_lines))]
 fn write_table_kind(out: &mut Output, kind: &TableKind) -> Result<(), Refused>
     ensures { PrintedLines table_kind_form (table_kind_view kind.now) result out.old out.new }
 {
     match kind {
-        TableKind::Import { import, ty } => write_imported(out, import, ty),
-        TableKind::Normal { ty, init_expr } => write_normal(out, ty, init_expr),
+        TableKind::Import { import, ty } => {
+            write_inline_import(out, import)?;
+            write_table_type(out, ty)
+        }
+        TableKind::Normal { ty, init_expr } => {
+            write_table_type(out, ty)?;
+            write_initial(out, init_expr)
+        }
         TableKind::Inline {
             elem,
             is64,
@@ -207,7 +168,6 @@ impl PrintPart for Table<'_> {
     ghost printing = { printing_by table_field_form table_field_prints (λ v h. h) refl refl };
 
     fn write(&self, out: &mut Output) -> Result<(), Refused> {
-        write_table(out, self)?;
-        Ok(())
+        write_table(out, self)
     }
 }

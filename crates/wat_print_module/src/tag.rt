@@ -1,11 +1,9 @@
 //! Printing of tags.
 
 ghost use Rattle.std.specs.Prelude.{refl};
-ghost use Rattle.wat_types.specs.Tag.{tag_type_view};
 ghost use Rattle.wat_fields.specs.Tag.{TagTy, tag_kind_view, tag_view, tag};
 ghost use Rattle.wat_print.specs.Printed.{printing_by};
 ghost use Rattle.wat_print.specs.Prints.{Printed};
-ghost use Rattle.wat_print.specs.Use.{use_form};
 ghost use Rattle.wat_print_module.specs.Tag.{tag_import_form, tag_form};
 ghost use Rattle.wat_print_module.specs.Laws.Tag.{tag_prints};
 
@@ -26,15 +24,6 @@ fn write_import(out: &mut Output, kind: &TagKind) -> Result<(), Refused>
     }
 }
 
-/// Writes the type of a tag.
-fn write_tag_type(out: &mut Output, ty: &TagType) -> Result<(), Refused>
-    ensures { Printed use_form (tag_type_view ty.now) result out.old out.new }
-{
-    match ty {
-        TagType::Exception(ty) => write_use(out, ty),
-    }
-}
-
 /// Writes a tag, without its parentheses (Text Format, Modules, "Tags"): its inline exports and
 /// import, and its type.
 #[tactic(auto, using(wat_print::specs::Laws::Written::put_both))]
@@ -44,7 +33,9 @@ pub fn write_tag(out: &mut Output, tag: &Tag) -> Result<(), Refused>
     out.word("tag")?;
     write_head(out, &tag.id, &tag.name, &tag.exports)?;
     write_import(out, &tag.kind)?;
-    write_tag_type(out, &tag.ty)
+    match &tag.ty {
+        TagType::Exception(ty) => write_use(out, ty),
+    }
 }
 
 impl PrintPart for Tag<'_> {

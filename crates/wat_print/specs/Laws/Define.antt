@@ -1,14 +1,13 @@
 -- Laws: definitions of types, and recursion groups, are read again.
-use Rattle.std.specs.Prelude.{◌≡◌, ℕ, true, List}
-use Rattle.std.specs.Prelude.{codes, ◌⊎◌}
+use Rattle.std.specs.Prelude.{◌≡◌, ℕ, true, List, codes, ◌⊎◌}
 use Rattle.std.specs.Str.{bytes_eq}
 use Rattle.std.proofs.Common.{rules, arith, refl, lit≤}
 use Rattle.std.proofs.lemmas.Bool.{and_parts}
 use Rattle.wat_tokens.specs.Index.{begins_index}
 use Rattle.wat_tokens.specs.Tests.{begins_word, second}
-use Rattle.wat_types.specs.Define.{func, struct_, array, cont, kind, DefTy, linked}
-use Rattle.wat_types.specs.Define.{plain_def, described, shared_def, maybe_shared, sub_def}
-use Rattle.wat_types.specs.Define.{type_def, type_, begins_type}
+use Rattle.wat_types.specs.Define.{func, struct_, array, cont, kind, DefTy, linked, plain_def}
+use Rattle.wat_types.specs.Define.{described, shared_def, maybe_shared, sub_def, type_def, type_}
+use Rattle.wat_types.specs.Define.{begins_type}
 use Rattle.wat_types.specs.Laws.Define.{grouped_type_consumes}
 use Rattle.wat_types.specs.Recursion.{types, rec}
 use Rattle.wat_print.specs.Define.{kind_parts, kind_form, link_form, Core, core_form, shared_form}

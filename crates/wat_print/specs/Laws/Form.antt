@@ -1,6 +1,6 @@
 -- Laws: the tokens that a form writes are read again, part by part.
 use Rattle.std.specs.Prelude.{◌≡◌, ◌≤◌, ℕ, Bool, true, false, not, ◌&&◌, List, [], ◌∷◌, ◌++◌}
-use Rattle.std.specs.Prelude.{Option, Some, None, flat_map, map, ◌⊎◌, ◌||◌}
+use Rattle.std.specs.Prelude.{Option, Some, None, flat_map, map, ◌⊎◌, ◌||◌, option_map}
 use Rattle.std.specs.Str.{bytes_eq}
 use Rattle.std.proofs.Common.{refl, ap, subst, sym, ◌∙◌, append_assoc, inl, inr}
 use Rattle.std.proofs.lemmas.Bool.{and_parts}
@@ -19,10 +19,10 @@ use Rattle.wat_print.specs.Form.{Test, any, Form, told_form, token_form, OfWord,
 use Rattle.wat_print.specs.Form.{flag_form, seq_follows, SeqFronts, seq_form, by, by_where, pick}
 use Rattle.wat_print.specs.Form.{else_follows, else_form, option_form, many_form, ParenFronts}
 use Rattle.wat_print.specs.Form.{paren_form, turn_form, after_form, group_form, only_where_form}
-use Rattle.wat_print.specs.Form.{behind_form, unwritten_form}
-use Rattle.wat_print.specs.Form.{filled_form, some_and}
+use Rattle.wat_print.specs.Form.{behind_form, unwritten_form, filled_form, some_and}
 use Rattle.wat_print.specs.Parts.{spell_option, if_some, each, spell_flag}
-use Rattle.wat_print.specs.Prints.{Passes, Closes, Nests, Unparses, Prints, Must}
+use Rattle.wat_print.specs.Prints.{Passes, Closes, Nests, Unparses, Prints, Must, UnparsesAs}
+use Rattle.wat_print.specs.Prints.{Inside}
 use Rattle.wat_print.specs.WellFormed.{WellFormed, nothing, is_given, is_keyword, is_printable}
 use Rattle.wat_print.specs.WellFormed as well_formed
 use Rattle.wat_print.specs.Laws.Only.{given_parts, OnlyPrintable}
@@ -101,8 +101,8 @@ pub not_true : (b : Bool) → not b ≡ true → b ≡ false
 not_true true h = absurd cc
 not_true false h = refl
 
-module _ {A B : Type 0} {form : Form A} {view : A → B} {g : Production B}
-    (p : Unparses form view g)
+module _ {N : Bool → List Tok → Type 0} {A B : Type 0} {form : Form A} {view : A → B}
+    {g : Production B} (p : UnparsesAs N form view g)
   where
     begun : (test : Test) → Must form.empty (form.Fronts any test) → (a : A) (r : List Tok)
         → form.ready a ≡ true → test (form.spell a ++ r) ≡ true
@@ -235,10 +235,11 @@ module _ {A B C D : Type 0} {form : Form A} {other : Form B} {view : A → C} {a
 
 -- ---- values made of parts
 
-module _ {A B C : Type 0} {form : Form A} {view : A → B} {g : Production B}
-    (p : Unparses form view g)
+module _ {N : Bool → List Tok → Type 0} {A B : Type 0} {form : Form A} {view : A → B}
+    {g : Production B} (p : UnparsesAs N form view g)
   where
-    pub made_prints : (f : B → C) → Unparses form (λ a. f (view a)) (made f g)
+    pub made_prints : {C : Type 0} (f : B → C)
+        → UnparsesAs N form (λ a. f (view a)) (made f g)
     made_prints f = record {
       nests = p.nests;
       front = p.front;
@@ -246,13 +247,13 @@ module _ {A B C : Type 0} {form : Form A} {view : A → B} {g : Production B}
       only = λ b c r a s. (let x = p.only s.0 c r a s.1 in (x.0, ap f x.1 ∙ s.3, x.2));
     }
 
-module _ {A B : Type 0} {form : Form A} {view : A → B} {g : Production B}
-    (p : Unparses form view g) (parts : B → A) (ok : B → Bool)
+module _ {N : Bool → List Tok → Type 0} {A B : Type 0} {form : Form A} {view : A → B}
+    {g : Production B} (p : UnparsesAs N form view g) (parts : B → A) (ok : B → Bool)
     (is : (b : B) → ok b ≡ true → view (parts b) ≡ b)
     (is_ready : (b : B) → ok b ≡ true → form.ready (parts b) ≡ true)
     (covers : (a : A) → form.printable a ≡ true → ok (view a) ≡ true)
   where
-    pub whole_where : Prints (by_where ok parts form) g
+    pub whole_where : UnparsesAs N (by_where ok parts form) (λ v. v) g
     whole_where = record {
       nests = λ b h. p.nests (parts b) (is_ready b h);
       front = λ rest test f b r h i e. p.front rest test f (parts b) r (is_ready b h) i e;
@@ -262,13 +263,13 @@ module _ {A B : Type 0} {form : Form A} {view : A → B} {g : Production B}
           (b, refl, subst (λ (w : B). ok w ≡ true) x.1 (covers x.0 x.2)));
     }
 
-module _ {A B : Type 0} {form : Form A} {view : A → B} {g : Production B}
-    (p : Unparses form view g) (parts : B → A)
+module _ {N : Bool → List Tok → Type 0} {A B : Type 0} {form : Form A} {view : A → B}
+    {g : Production B} (p : UnparsesAs N form view g) (parts : B → A)
   where
     pub whole_prints : ((b : B) → form.printable (parts b) ≡ true → view (parts b) ≡ b)
         → ((b : B) → form.printable (parts b) ≡ true → form.ready (parts b) ≡ true)
         → ((a : A) → form.printable a ≡ true → form.printable (parts (view a)) ≡ true)
-        → Prints (by parts form) g
+        → UnparsesAs N (by parts form) (λ v. v) g
     whole_prints is is_ready covers =
         whole_where p parts (λ b. form.printable (parts b)) is is_ready covers
 
@@ -286,15 +287,16 @@ module _ {A B : Type 0} {form : Form A} {view : A → B} {g : Production B}
 
 -- ---- one of two
 
-pub else_parts : (e : Bool) (test f : Test) (r : List Tok)
+else_parts : (e : Bool) (test f : Test) (r : List Tok)
     → else_follows e test f r ≡ true → Passes e (λ t. not (test t)) r × (f r ≡ true)
 else_parts true test f r h = and_parts (not (test r)) (f r) h
 else_parts false test f r h = (tt, h)
 
-module _ {A B : Type 0} {form : Form A} {view : A → B} {g : Production B}
-    (p : Unparses form view g)
+module _ {N : Bool → List Tok → Type 0} {A B : Type 0} {form : Form A} {view : A → B}
+    {g : Production B} (p : UnparsesAs N form view g)
   where
-    pub unwritten_prints : Unparses (unwritten_form form) view g
+    pub unwritten_prints : {M : Bool → List Tok → Type 0}
+        → UnparsesAs M (unwritten_form form) view g
     unwritten_prints = record {
       nests = λ a h. absurd cc;
       front = λ rest test f a r h i e. absurd cc;
@@ -342,22 +344,24 @@ module _ {A B : Type 0} {form : Form A} {view : A → B} {g : Production B}
       only = λ b c r a s. p.only b c r a (from b c r s);
     }
 
-pub passes_left : (a b : Bool) (test : Test) (r : List Tok) → Passes (a || b) test r → Passes a test r
+passes_left : (a b : Bool) (test : Test) (r : List Tok) → Passes (a || b) test r → Passes a test r
 passes_left true b test r e = e
 passes_left false b test r e = tt
 
-pub passes_right : (a b : Bool) (test : Test) (r : List Tok) → Passes (a || b) test r → Passes b test r
+passes_right : (a b : Bool) (test : Test) (r : List Tok) → Passes (a || b) test r → Passes b test r
 passes_right true b test r e = passes_of b test r e
 passes_right false b test r e = e
 
-module _ {A B C : Type 0} {form : Form A} {other : Form B} {view : A → C} {also : B → C}
-    {g h : Production C} (rest test : Test) (p : Unparses form view g)
-    (q : Unparses other also h)
+module _ {N : Bool → List Tok → Type 0} {A B C : Type 0} {form : Form A} {other : Form B}
+    {view : A → C} {also : B → C} {g h : Production C} (rest test : Test)
+    (p : UnparsesAs N form view g) (q : UnparsesAs N other also h)
+    (left : (x : List Tok) → N form.balanced x → N (form.balanced && other.balanced) x)
+    (right : (x : List Tok) → N other.balanced x → N (form.balanced && other.balanced) x)
   where
     else_nests : (v : A ⊎ B) → pick form.ready other.ready v ≡ true
-        → Nests (form.balanced && other.balanced) (pick form.spell other.spell v)
-    else_nests (inl a) k = nests_left form.balanced other.balanced (form.spell a) (p.nests a k)
-    else_nests (inr b) k = nests_right form.balanced other.balanced (other.spell b) (q.nests b k)
+        → N (form.balanced && other.balanced) (pick form.spell other.spell v)
+    else_nests (inl a) k = left (form.spell a) (p.nests a k)
+    else_nests (inr b) k = right (other.spell b) (q.nests b k)
 
     else_front : (x t : Test) → form.Fronts x t × other.Fronts x t → (v : A ⊎ B) (r : List Tok)
         → pick form.ready other.ready v ≡ true → x r ≡ true → Passes (form.empty || other.empty) t r
@@ -395,11 +399,11 @@ module _ {A B C : Type 0} {form : Form A} {other : Form B} {view : A → C} {als
 
     -- the test passes on the tokens of the first part, and fails on the tokens of the second part,
     -- before each rest that passes `rest`
-    pub told_prints : ((a : A) (r : List Tok) → form.ready a ≡ true → rest r ≡ true
+    told : ((a : A) (r : List Tok) → form.ready a ≡ true → rest r ≡ true
         → test (form.spell a ++ r) ≡ true)
         → other.Fronts rest (λ t. not (test t))
-        → Unparses (told_form rest test form other) (pick view also) (where_else test g h)
-    told_prints m f = record {
+        → UnparsesAs N (told_form rest test form other) (pick view also) (where_else test g h)
+    told m f = record {
       nests = else_nests;
       front = else_front;
       here = else_here m f;
@@ -407,16 +411,41 @@ module _ {A B C : Type 0} {form : Form A} {other : Form B} {view : A → C} {als
     }
 
 module _ {A B C : Type 0} {form : Form A} {other : Form B} {view : A → C} {also : B → C}
-    {g h : Production C} (test : Test) (p : Unparses form view g) (q : Unparses other also h)
+    {g h : Production C}
   where
-    pub else_prints : Must form.empty (form.Fronts any test) → other.Fronts any (λ t. not (test t))
+    pub told_prints : (rest test : Test) → Unparses form view g → Unparses other also h
+        → ((a : A) (r : List Tok) → form.ready a ≡ true → rest r ≡ true
+        → test (form.spell a ++ r) ≡ true)
+        → other.Fronts rest (λ t. not (test t))
+        → Unparses (told_form rest test form other) (pick view also) (where_else test g h)
+    told_prints rest test p q m f = told rest test p q (nests_left form.balanced other.balanced)
+        (nests_right form.balanced other.balanced) m f
+
+    pub else_prints : (test : Test) → Unparses form view g → Unparses other also h
+        → Must form.empty (form.Fronts any test) → other.Fronts any (λ t. not (test t))
         → Unparses (else_form test form other) (pick view also) (where_else test g h)
-    else_prints m f = told_prints any test p q (λ a r k e. begun p test m a r k) f
+    else_prints test p q m f = told_prints any test p q (λ a r k e. begun p test m a r k) f
+
+    pub else_inside : (test : Test) → Inside form view g → Inside other also h
+        → Must form.empty (form.Fronts any test) → other.Fronts any (λ t. not (test t))
+        → Inside (else_form test form other) (pick view also) (where_else test g h)
+    else_inside test p q m f = told any test p q (λ x n. n) (λ x n. n)
+        (λ a r k e. begun p test m a r k) f
 
 -- ---- parts that may be absent, and lists of parts
 
-module _ {A : Type 0} {form : Form A} {g : Production A} (begins : Test)
-    (p : Prints form g)
+-- the same facts, with another function that returns the same views
+seen_as : {A B : Type 0} {form : Form A} {view also : A → B} {g : Production B}
+    → ((a : A) → view a ≡ also a) → Unparses form view g → Unparses form also g
+seen_as {form = form} {g = g} same p = record {
+  nests = p.nests;
+  front = p.front;
+  here = λ a r h e. subst (λ v. g.spells v (form.spell a) r) (same a) (p.here a r h e);
+  only = λ b c r a s. (let x = p.only b c r a s in (x.0, sym (same x.0) ∙ x.1, x.2));
+}
+
+module _ {A B : Type 0} {form : Form A} {view : A → B} {g : Production B} (begins : Test)
+    (p : Unparses form view g)
   where
     option_nests : (o : Option A) → if_some form.ready o ≡ true
         → Nests form.balanced (spell_option form.spell o)
@@ -432,30 +461,38 @@ module _ {A : Type 0} {form : Form A} {g : Production A} (begins : Test)
 
     option_here : Must form.empty (form.Fronts any begins) → (o : Option A) (r : List Tok)
         → if_some form.ready o ≡ true → not (begins r) && form.follows r ≡ true
-        → (opt begins g).spells o (spell_option form.spell o) r
+        → (opt begins g).spells (option_map view o) (spell_option form.spell o) r
     option_here m (Some v) r h e =
         (begun p begins m v r h, p.here v r h (and_parts (not (begins r)) (form.follows r) e).1)
     option_here m None r h e =
         (refl, not_true (begins r) (and_parts (not (begins r)) (form.follows r) e).0)
 
-    option_only : (o : Option A) (c r : List Tok) → each is_given c ≡ true
-        → (opt begins g).spells o c r → if_some form.printable o ≡ true
-    option_only (Some v) c r a s = let x = p.only v c r a s.1 in
-        subst (λ (w : A). form.printable w ≡ true) x.1 x.2
-    option_only None c r a s = refl
+    option_only : (o : Option B) (c r : List Tok) → each is_given c ≡ true
+        → (opt begins g).spells o c r
+        → (t : Option A) × (option_map view t ≡ o) × (if_some form.printable t ≡ true)
+    option_only (Some w) c r a s =
+        let x = p.only w c r a s.1 in (Some x.0, ap (λ (v : B). Some v) x.1, x.2)
+    option_only None c r a s = (None, refl, refl)
 
-    pub option_prints : Must form.empty (form.Fronts any begins)
-        → Prints (option_form begins form) (opt begins g)
-    option_prints m = record {
+    pub option_seen : Must form.empty (form.Fronts any begins)
+        → Unparses (option_form begins form) (option_map view) (opt begins g)
+    option_seen m = record {
       nests = option_nests;
       front = option_front;
       here = option_here m;
-      only = λ o c r a s. (o, refl, option_only o c r a s);
+      only = option_only;
     }
+
+option_same : {A : Type 0} (o : Option A) → option_map (λ v. v) o ≡ o
+option_same (Some v) = refl
+option_same None = refl
 
 module _ {A : Type 0} {form : Form A} {g : Production A} (begins : Test) (p : Prints form g)
     (m : Must form.empty (form.Fronts any begins))
   where
+    pub option_prints : Prints (option_form begins form) (opt begins g)
+    option_prints = seen_as option_same (option_seen begins p m)
+
     filled_nests : (o : Option A) → some_and form.ready o ≡ true
         → Nests form.balanced (spell_option form.spell o)
     filled_nests (Some v) h = p.nests v h
@@ -477,7 +514,7 @@ module _ {A : Type 0} {form : Form A} {g : Production A} (begins : Test) (p : Pr
       nests = filled_nests;
       front = filled_front;
       here = filled_here;
-      only = λ o c r a s. (o, refl, option_only begins p o c r a s);
+      only = option_prints.only;
     }
 
 module _ {A B : Type 0} {form : Form A} {view : A → B} {g : Production B} (begins : Test)
@@ -568,17 +605,7 @@ module _ {A : Type 0} {form : Form A} {g : Production A} (begins : Test) (p : Pr
     pub many_prints : (consumes : 1 ≤ g.least) → Must form.empty (form.Fronts any begins)
         → Must form.empty (form.Fronts any form.follows)
         → Prints (many_form begins form) (many begins g consumes)
-    many_prints consumes m n =
-        let q = many_seen begins p consumes m n in
-        record {
-          nests = q.nests;
-          front = q.front;
-          here = λ vs r h e. (subst
-              (λ (ws : List A). many_spells begins g ws (flat_map form.spell vs) r)
-              (map_same vs) (q.here vs r h e));
-          only = λ vs c r a s. (let x = q.only vs c r a s in
-              (x.0, sym (map_same x.0) ∙ x.1, x.2));
-        }
+    many_prints consumes m n = seen_as map_same (many_seen begins p consumes m n)
 
 -- ---- groups
 
@@ -589,35 +616,51 @@ paren_front : (b : Bool) (F : Test → Test → Type 0) (test : Test) (x r : Lis
 paren_front true F test x r f h = f h.0 (h.1 r)
 paren_front false F test x r f h = f h tt
 
-module _ {A B : Type 0} {form : Form A} {view : A → B} {g : Production B}
-    (p : Unparses form view g)
+module _ {N : Bool → List Tok → Type 0} {A B : Type 0} {form : Form A} {view : A → B}
+    {g : Production B} (p : UnparsesAs N form view g)
+    (shut : (x : List Tok) → N form.balanced x → WellFormed (in_parens x))
   where
-    paren_front_of : (test : Test) → ParenFronts form.empty form.Fronts test → (a : A)
+    in_parens_front : (test : Test) → ParenFronts form.empty form.Fronts test → (a : A)
         (r : List Tok) → form.ready a ≡ true → test (in_parens (form.spell a) ++ r) ≡ true
-    paren_front_of test f a r h =
+    in_parens_front test f a r h =
         subst (λ (l : List Tok). test (LParen ∷ l) ≡ true)
         (sym (append_assoc (form.spell a) (RParen ∷ []) r))
         (paren_front form.empty form.Fronts test (form.spell a) r
         (λ f e. p.front any (λ t. test (LParen ∷ t)) f a (RParen ∷ r) h refl e) f)
 
-    pub paren_prints : Unparses (paren_form form) view (paren g)
-    paren_prints = record {
-      nests = λ a h. nests_paren form.balanced (form.spell a) (p.nests a h);
-      front = λ rest test f a r h i e. paren_front_of test f a r h;
+    shut_prints : Unparses (paren_form form) view (paren g)
+    shut_prints = record {
+      nests = λ a h. shut (form.spell a) (p.nests a h);
+      front = λ rest test f a r h i e. in_parens_front test f a r h;
       here = λ a r h e. (form.spell a, refl, p.here a (RParen ∷ r) h e);
       only = λ b c r a s. (let k = given_parts c (LParen ∷ s.0) (RParen ∷ []) s.1 a in
           p.only b s.0 (RParen ∷ r) k.0 s.2);
     }
 
-    -- word, then the form
-    after_only : (w : List ℕ) (b : B) (c r : List Tok) → each is_given c ≡ true
-        → (after_word w g).spells b c r → (a : A) × (view a ≡ b) × (form.printable a ≡ true)
-    after_only w b c r a s =
+module _ {A B : Type 0} {form : Form A} {view : A → B} {g : Production B}
+  where
+    -- ( .. )
+    pub paren_prints : Unparses form view g → Unparses (paren_form form) view (paren g)
+    paren_prints p = shut_prints p (nests_paren form.balanced)
+
+    -- ( .. ), if only the tokens in parentheses are well formed
+    pub grouped_prints : Inside form view g → Unparses (paren_form form) view (paren g)
+    grouped_prints p = shut_prints p (λ x n. n)
+
+    -- a part that reads one token without a value, and then the form
+    pub led_only : (k : Production (Unit {0})) → Unparses form view g → (b : B) (c r : List Tok)
+        → each is_given c ≡ true → (made (λ v. v.1) (seq k g)).spells b c r
+        → (a : A) × (view a ≡ b) × (form.printable a ≡ true)
+    led_only k p b c r a s =
         let t = s.1 in
-        let k = given_parts c t.0 t.1 t.2 a in
-        let x = p.only s.0.1 t.1 r k.1 t.4 in
+        let i = given_parts c t.0 t.1 t.2 a in
+        let x = p.only s.0.1 t.1 r i.1 t.4 in
         (x.0, x.1 ∙ s.3, x.2)
 
+module _ {A B : Type 0} {form : Form A} {view : A → B} {g : Production B}
+    (p : Unparses form view g)
+  where
+    -- word, then the form
     pub after_prints : (w : List ℕ) → is_keyword w ≡ true → bytes_eq w w ≡ true
         → Unparses (after_form w form) view (after_word w g)
     after_prints w k e = record {
@@ -636,7 +679,7 @@ module _ {A B : Type 0} {form : Form A} {view : A → B} {g : Production B}
         refl,
         refl,
       );
-      only = after_only w;
+      only = led_only (word w) p;
     }
 
 module _ {A B : Type 0} {form : Form A} {view : A → B} {g : Production B}

@@ -1,67 +1,31 @@
 -- Laws: labels, and lists of parts with optional labels, are read again.
 use Rattle.std.specs.Prelude.{◌≡◌, ℕ, Bool, true, false, not, ◌&&◌, ◌||◌, List, [], ◌∷◌, ◌++◌}
-use Rattle.std.specs.Prelude.{Option, Some, None, codes, flat_map, map, slice_index, ◌<◌, ◌⊎◌, ◌≤◌}
-use Rattle.std.specs.Str.{is_utf8}
+use Rattle.std.specs.Prelude.{Option, Some, None, codes, flat_map, map, ◌⊎◌, ◌≤◌}
 use Rattle.std.proofs.Common.{refl, ap, subst, sym, ◌∙◌, append_assoc, append-nil, inl, inr, rules}
 use Rattle.std.proofs.lemmas.Bool.{and_parts}
-use Rattle.std.proofs.lemmas.Str.{is_utf8-from_IsUtf8, IsUtf8-from_is_utf8, IsUtf8-from_ascii}
-use Rattle.wat_lexer.specs.Token.{Tok, LParen, RParen, Id, Annotation, String}
+use Rattle.wat_lexer.specs.Token.{Tok, LParen, Id}
 use Rattle.wat_tokens.specs.Index.{identifier}
 use Rattle.wat_tokens.specs.Joined.{all_of}
 use Rattle.wat_tokens.specs.Many.{many}
 use Rattle.wat_tokens.specs.NameAnnotation.{name_annotation, begins_name}
-use Rattle.wat_tokens.specs.Parts.{made, seq, annotation_token, where_else}
+use Rattle.wat_tokens.specs.Parts.{made, seq, where_else}
 use Rattle.wat_tokens.specs.Production.{Production}
 use Rattle.wat_tokens.specs.Tests.{as_id, begins_id, more}
 use Rattle.wat_types.specs.Label.{Label, label_of, no_label, labelled, label, begins_label}
 use Rattle.wat_print.specs.Form.{Form, any, pick}
-use Rattle.wat_print.specs.Label.{spell_name, none_labelled, by_itself, in_groups, OfIds, id_form}
-use Rattle.wat_print.specs.Label.{name_form, label_parts, label_form, tree_form, one_side}
-use Rattle.wat_print.specs.Label.{listed_parts, at_most_one, may_share, listed_form}
+use Rattle.wat_print.specs.Label.{none_labelled, by_itself, in_groups, OfIds, id_form, name_form}
+use Rattle.wat_print.specs.Label.{label_parts, label_form, tree_form, one_side, listed_parts}
+use Rattle.wat_print.specs.Label.{at_most_one, may_share, listed_form}
 use Rattle.wat_print.specs.Parts.{each}
 use Rattle.wat_print.specs.Prints.{Prints, Unparses, Must}
-use Rattle.wat_print.specs.WellFormed.{is_name, is_given, WellFormed, nothing, noted}
-use Rattle.wat_print.specs.Laws.Bytes.{utf8_bytes}
+use Rattle.wat_print.specs.WellFormed.{is_name, is_given}
+use Rattle.wat_print.specs.Laws.Annotation.{annotated}
 use Rattle.wat_print.specs.Laws.Form.{one_prints, option_prints, seq_prints, made_prints}
 use Rattle.wat_print.specs.Laws.Form.{whole_prints, whole_where, told_prints, only_where_prints}
-use Rattle.wat_print.specs.Laws.Form.{many_seen, respelled, prints_only}
-use Rattle.wat_print.specs.Laws.Only.{OnlyPrintable, only_any, only_paren, only_seq, only_made}
-use Rattle.wat_print.specs.Laws.Parts.{Spells, well_formed_one, and_also, each_both}
+use Rattle.wat_print.specs.Laws.Form.{many_seen, respelled, grouped_prints}
+use Rattle.wat_print.specs.Laws.Parts.{and_also, each_both}
 use Rattle.wat_print.specs.Laws.Quoted.{if_cases}
 use Rattle.wat_print.specs.Laws.Strings.{text_prints}
-
--- ---- labels
-
-pub name_here : (n : List ℕ) → is_utf8 n ≡ true → Spells name_annotation n (spell_name n)
-unfolding name_annotation
-name_here n h r = (
-  Annotation (codes "name") ∷ String n ∷ [],
-  refl,
-  (
-    (tt, n),
-    (
-      Annotation (codes "name") ∷ [],
-      String n ∷ [],
-      refl,
-      (Annotation (codes "name"), refl, refl),
-      (String n, refl, rw h refl),
-    ),
-    refl,
-    refl,
-  ),
-)
-
-name_ascii : (i : ℕ) → slice_index (codes "name") i < 128
-name_ascii i = search (rules)
-
-name_printable : is_name (codes "name") ≡ true
-name_printable =
-    is_utf8-from_IsUtf8 (codes "name") (IsUtf8-from_ascii (codes "name") (λ i. (name_ascii i)))
-
-pub name_well_formed : (n : List ℕ) → is_utf8 n ≡ true → WellFormed (spell_name n)
-name_well_formed n h =
-    noted (codes "name") (String n ∷ []) [] name_printable refl
-    (well_formed_one (String n) (utf8_bytes n (IsUtf8-from_is_utf8 n h))) nothing
 
 -- ---- parts with optional labels
 
@@ -85,13 +49,6 @@ id_given (Id m) n a e =
 id_given LParen n a e = absurd cc
 id_given _ n a e = absurd cc
 
-pub name_only : OnlyPrintable name_annotation is_utf8
-unfolding name_annotation
-name_only =
-    only_paren (only_made (λ _. true) (λ v. v.1) is_utf8
-    (only_seq (only_any (annotation_token (codes "name")))
-    (prints_only text_prints)))
-
 pub id_prints : Prints id_form identifier
 id_prints =
     one_prints as_id (refl, refl) (λ n. Id n) is_name
@@ -99,12 +56,8 @@ id_prints =
     (λ rest test f n y h k. f n y k) (λ n h. h) (λ n h. refl) id_given
 
 pub name_prints : Prints name_form name_annotation
-name_prints = record {
-  nests = name_well_formed;
-  front = λ rest test f n r h k e. f (String n ∷ RParen ∷ r);
-  here = λ n r h e. name_here n h r;
-  only = λ n c r a s. (n, refl, name_only.holds n c r a s);
-}
+unfolding name_annotation
+name_prints = grouped_prints (annotated text_prints refl (codes "name") refl refl refl)
 
 pub label_prints : Prints label_form label
 unfolding label
@@ -153,58 +106,67 @@ module _ {T P : Type 0} {value : Form T} {g : Production T} (p : Prints value g)
         (many_seen more (made_prints p (part no_label)) consumes more_front next_front) label_told
         told_front
 
-    plain_whole : (x : P) → not (labelled (label_in x)) ≡ true → part no_label (value_in x) ≡ x
-    plain_whole x h =
-        ap (λ (l : Label). part l (value_in x))
-        (sym (unlabelled_is (label_in x).id (label_in x).name h)) ∙ whole x
-
-    all_whole : (xs : List P) → none_labelled label_in xs ≡ true
-        → map (part no_label) (map value_in xs) ≡ xs
-    all_whole [] h = refl
-    all_whole (x ∷ xs) h =
-        let a = and_parts (not (labelled (label_in x))) (none_labelled label_in xs) h in
-        ap (λ (y : P). y ∷ map (part no_label) (map value_in xs)) (plain_whole x a.0)
-        ∙ ap (λ (ys : List P). x ∷ ys) (all_whole xs a.1)
-
-    one_is : (b : Bool) (x : P) → labelled (label_in x) ≡ b
-        → seen (one_side value label_in value_in b x) ≡ x ∷ []
-    one_is true x e = ap (λ (y : P). y ∷ []) (whole x)
-    one_is false x e = ap (λ (y : P). y ∷ []) (plain_whole x (rw e refl))
-
-    listed_is : (xs : List P) → may_share value label_in value_in xs ≡ true
-        → seen (listed_parts value label_in value_in xs) ≡ xs
-    listed_is [] h = refl
-    listed_is (x ∷ []) h = one_is (labelled (label_in x)) x refl
-    listed_is (x ∷ y ∷ xs) h =
-        all_whole (x ∷ y ∷ xs) (and_parts (none_labelled label_in (x ∷ y ∷ xs)) _ h).0
-
     abbrev printable_part : P → Bool
     printable_part x = label_form.printable (label_in x) && value.printable (value_in x)
 
-    all_ready : (xs : List P) → each printable_part xs ≡ true
-        → each value.ready (map value_in xs) ≡ true
-    all_ready [] h = refl
-    all_ready (x ∷ xs) h =
-        let a = and_parts (printable_part x) (each printable_part xs) h in
-        let k = and_parts (label_form.printable (label_in x)) (value.printable (value_in x)) a.0 in
-        rw (sure (value_in x) k.1) (all_ready xs a.1)
+    abbrev spell_part : P → List Tok
+    spell_part x = label_form.spell (label_in x) ++ value.spell (value_in x)
 
-    one_ready : (b : Bool) (x : P) → labelled (label_in x) ≡ b → printable_part x ≡ true
-        → (tree_form value label_in value_in).ready (one_side value label_in value_in b x) ≡ true
-    one_ready true x e h =
-        let k = and_parts (label_form.printable (label_in x)) (value.printable (value_in x)) h in
-        rw (e, k.0, sure (value_in x) k.1) refl
-    one_ready false x e h =
-        let k = and_parts (label_form.printable (label_in x)) (value.printable (value_in x)) h in
-        rw (sure (value_in x) k.1) refl
+    -- a part without a label is written as its value
+    plain_part : (x : P) → not (labelled (label_in x)) ≡ true
+        → (part no_label (value_in x) ≡ x) × (spell_part x ≡ value.spell (value_in x))
+    plain_part x h =
+        let e = unlabelled_is (label_in x).id (label_in x).name h in (
+          ap (λ (l : Label). part l (value_in x)) (sym e) ∙ whole x,
+          ap (λ (l : Label). label_form.spell l ++ value.spell (value_in x)) e,
+        )
 
-    listed_ready : (xs : List P) → may_share value label_in value_in xs ≡ true
-        → (tree_form value label_in value_in).ready (listed_parts value label_in value_in xs) ≡ true
-    listed_ready [] h = refl
-    listed_ready (x ∷ []) h =
-        one_ready (labelled (label_in x)) x refl (and_parts (printable_part x) true h).0
-    listed_ready (x ∷ y ∷ xs) h =
-        all_ready (x ∷ y ∷ xs) (and_parts (none_labelled label_in (x ∷ y ∷ xs)) _ h).1
+    -- the form of one group writes the parts
+    abbrev WritesParts : Label × T ⊎ List T → List P → Type 0
+    WritesParts t xs =
+        (seen t ≡ xs) × ((tree_form value label_in value_in).ready t ≡ true)
+        × ((tree_form value label_in value_in).spell t ≡ flat_map spell_part xs)
+
+    one_written : (b : Bool) (x : P) → labelled (label_in x) ≡ b → printable_part x ≡ true
+        → WritesParts (one_side value label_in value_in b x) (x ∷ [])
+    one_written true x e h =
+        let k = and_parts (label_form.printable (label_in x)) (value.printable (value_in x)) h in (
+          ap (λ (y : P). y ∷ []) (whole x),
+          rw (e, k.0, sure (value_in x) k.1) refl,
+          sym (append-nil (spell_part x)),
+        )
+    one_written false x e h =
+        let k = and_parts (label_form.printable (label_in x)) (value.printable (value_in x)) h in
+        let p = plain_part x (rw e refl) in (
+          ap (λ (y : P). y ∷ []) p.0,
+          rw (sure (value_in x) k.1) refl,
+          ap (λ (l : List Tok). l ++ []) (sym p.1),
+        )
+
+    all_written : (xs : List P) → none_labelled label_in xs ≡ true
+        → each printable_part xs ≡ true → WritesParts (inr (map value_in xs)) xs
+    all_written [] h f = (refl, refl, refl)
+    all_written (x ∷ xs) h f =
+        let a = and_parts (not (labelled (label_in x))) (none_labelled label_in xs) h in
+        let b = and_parts (printable_part x) (each printable_part xs) f in
+        let k = and_parts (label_form.printable (label_in x)) (value.printable (value_in x)) b.0 in
+        let p = plain_part x a.0 in
+        let s = all_written xs a.1 b.1 in (
+          ap (λ (y : P). y ∷ map (part no_label) (map value_in xs)) p.0
+              ∙ ap (λ (ys : List P). x ∷ ys) s.0,
+          rw (sure (value_in x) k.1) s.1,
+          ap (λ (l : List Tok). value.spell (value_in x) ++ l) s.2
+              ∙ ap (λ (l : List Tok). l ++ flat_map spell_part xs) (sym p.1),
+        )
+
+    listed_written : (xs : List P) → may_share value label_in value_in xs ≡ true
+        → WritesParts (listed_parts value label_in value_in xs) xs
+    listed_written [] h = (refl, refl, refl)
+    listed_written (x ∷ []) h =
+        one_written (labelled (label_in x)) x refl (and_parts (printable_part x) true h).0
+    listed_written (x ∷ y ∷ xs) h =
+        let a = and_parts (none_labelled label_in (x ∷ y ∷ xs)) _ h in
+        all_written (x ∷ y ∷ xs) a.0 a.1
 
     none_plain : (vs : List T) → none_labelled label_in (map (part no_label) vs) ≡ true
     none_plain [] = refl
@@ -229,43 +191,12 @@ module _ {T P : Type 0} {value : Form T} {g : Production T} (p : Prints value g)
           plain_printable vs h,
         ) refl
 
-    plain_spelled : (x : P) → not (labelled (label_in x)) ≡ true
-        → label_form.spell (label_in x) ++ value.spell (value_in x) ≡ value.spell (value_in x)
-    plain_spelled x h =
-        ap (λ (l : Label). label_form.spell l ++ value.spell (value_in x))
-        (unlabelled_is (label_in x).id (label_in x).name h)
-
-    abbrev spell_part : P → List Tok
-    spell_part x = label_form.spell (label_in x) ++ value.spell (value_in x)
-
-    all_spelled : (xs : List P) → none_labelled label_in xs ≡ true
-        → flat_map value.spell (map value_in xs) ≡ flat_map spell_part xs
-    all_spelled [] h = refl
-    all_spelled (x ∷ xs) h =
-        let a = and_parts (not (labelled (label_in x))) (none_labelled label_in xs) h in
-        ap (λ (l : List Tok). value.spell (value_in x) ++ l) (all_spelled xs a.1)
-        ∙ ap (λ (l : List Tok). l ++ flat_map spell_part xs) (sym (plain_spelled x a.0))
-
-    one_spelled : (b : Bool) (x : P) → labelled (label_in x) ≡ b
-        → (tree_form value label_in value_in).spell (one_side value label_in value_in b x)
-        ≡ spell_part x ++ []
-    one_spelled true x e = sym (append-nil (spell_part x))
-    one_spelled false x e =
-        ap (λ (l : List Tok). l ++ []) (sym (plain_spelled x (rw e refl)))
-
-    listed_spelled : (xs : List P) → may_share value label_in value_in xs ≡ true
-        → (tree_form value label_in value_in).spell (listed_parts value label_in value_in xs)
-        ≡ flat_map spell_part xs
-    listed_spelled [] h = refl
-    listed_spelled (x ∷ []) h = one_spelled (labelled (label_in x)) x refl
-    listed_spelled (x ∷ y ∷ xs) h =
-        all_spelled (x ∷ y ∷ xs) (and_parts (none_labelled label_in (x ∷ y ∷ xs)) _ h).0
-
     listed_prints : Prints (listed_form value label_in value_in) parts
     listed_prints =
         respelled (whole_where tree_prints (listed_parts value label_in value_in)
-        (may_share value label_in value_in) listed_is listed_ready listed_covers)
-        (flat_map spell_part) listed_spelled
+        (may_share value label_in value_in) (λ xs h. (listed_written xs h).0)
+        (λ xs h. (listed_written xs h).1) listed_covers) (flat_map spell_part)
+        (λ xs h. (listed_written xs h).2)
 
     -- ---- groups of parts
 

@@ -13,9 +13,8 @@ use Rattle.wat_types.specs.Limits.{pagesize_or_none, table_type_of, table_type, 
 use Rattle.wat_types.specs.Limits.{memory_type}
 use Rattle.wat_types.specs.PageSize.{ExponentSpells}
 use Rattle.wat_print.specs.Limits.{is_u64, is_exponent, OfIntegers, number_form, width_parts}
-use Rattle.wat_print.specs.Limits.{exponent_form}
-use Rattle.wat_print.specs.Limits.{width_form, limits_parts, limits_form, page_form, memory_parts}
-use Rattle.wat_print.specs.Limits.{memory_form, table_parts, table_form}
+use Rattle.wat_print.specs.Limits.{exponent_form, width_form, limits_parts, limits_form, page_form}
+use Rattle.wat_print.specs.Limits.{memory_parts, memory_form, table_parts, table_form}
 use Rattle.wat_print.specs.Prints.{Prints}
 use Rattle.wat_print.specs.WellFormed.{is_given, is_printable}
 use Rattle.wat_print.specs.Parts.{each, spell_flag}

@@ -1,10 +1,11 @@
 -- Laws: values that tokens of a text spell can be written, part by part.
 use Rattle.std.specs.Prelude.{◌≡◌, ◌≤◌, ℕ, Bool, true, ◌&&◌, List, [], ◌∷◌, ◌++◌, Option, Some}
 use Rattle.std.specs.Str.{bytes_eq}
-use Rattle.std.proofs.Common.{refl, subst, inl, inr}
+use Rattle.std.proofs.Common.{refl, subst, inl, inr, sym}
 use Rattle.std.proofs.lemmas.Bool.{and_parts, cond_both}
+use Rattle.std.proofs.lemmas.Slice.Eq.{bytes_eq-Decides}
 use Rattle.wat_lexer.specs.Token.{Tok, LParen, RParen, Keyword}
-use Rattle.wat_tokens.specs.Groups.{paren, group}
+use Rattle.wat_tokens.specs.Groups.{paren}
 use Rattle.wat_tokens.specs.Many.{many}
 use Rattle.wat_tokens.specs.ManySpells.{many_spells}
 use Rattle.wat_tokens.specs.Parens.{NoParens}
@@ -45,6 +46,17 @@ look_up_printable {A = A} printable (x ∷ table) w v a e =
     (λ (o : Option A). o ≡ Some v → printable v ≡ true)
     (λ k f. (let same : x.1 ≡ v = cc in subst (λ (u : A). printable u ≡ true) same (p.0)))
     (λ k f. (look_up_printable printable table w v p.1 f)) e
+
+-- a word of a table passes each test that all words of the table pass
+pub table_word : {A : Type 0} (test : List ℕ → Bool) (table : List (List ℕ × A)) (w : List ℕ)
+    (v : A) → each (λ e. test e.0) table ≡ true → look_up table w ≡ Some v → test w ≡ true
+table_word test [] w v a e = absurd cc
+table_word {A = A} test (x ∷ table) w v a e =
+    let p = and_parts (test x.0) (each (λ e. test e.0) table) a in
+    cond_both (bytes_eq w x.0) (Some x.1) (look_up table w)
+    (λ (o : Option A). o ≡ Some v → test w ≡ true)
+    (λ k f. (subst (λ (u : List ℕ). test u ≡ true) (sym ((bytes_eq-Decides w x.0).0 k)) p.0))
+    (λ k f. (table_word test table w v p.1 f)) e
 
 pub word_given : {A : Type 0} (printable : A → Bool) (table : List (List ℕ × A))
     → each (λ e. printable e.1) table ≡ true → (t : Tok) (v : A) → is_given t ≡ true

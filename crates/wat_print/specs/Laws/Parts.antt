@@ -1,6 +1,6 @@
 -- Laws: the tokens that are written for parts of productions spell these parts.
-use Rattle.std.specs.Prelude.{◌≡◌, ℕ, Bool, true, false, ◌&&◌, List, [], ◌∷◌, ◌++◌, Option, Some}
-use Rattle.std.specs.Prelude.{None, flat_map}
+use Rattle.std.specs.Prelude.{◌≡◌, ℕ, Bool, true, false, ◌&&◌, List, [], ◌∷◌, ◌++◌, Some, None}
+use Rattle.std.specs.Prelude.{flat_map}
 use Rattle.std.specs.Str.{bytes_eq}
 use Rattle.std.proofs.Common.{refl, subst, sym, append_assoc}
 use Rattle.std.proofs.lemmas.Bool.{and_parts}
@@ -9,13 +9,11 @@ use Rattle.wat_tokens.specs.Tests.{begins_word}
 use Rattle.wat_tokens.specs.Production.{Production}
 use Rattle.wat_tokens.specs.Parts.{word, flag}
 use Rattle.wat_tokens.specs.Joined.{all_of}
-use Rattle.wat_tokens.specs.ManySpells.{many_spells}
-use Rattle.wat_tokens.specs.PartSpells.{opt_spells}
 use Rattle.wat_tokens.specs.Groups.{group}
 use Rattle.wat_tokens.specs.Spelled.{in_parens}
 use Rattle.wat_print.specs.WellFormed.{is_printable, is_keyword, WellFormed, nothing, token}
 use Rattle.wat_print.specs.WellFormed as well_formed
-use Rattle.wat_print.specs.Parts.{grouped, spell_flag, spell_option, each}
+use Rattle.wat_print.specs.Parts.{grouped, spell_flag, each}
 
 -- the tokens spell the value before any rest
 abbrev pub Spells : {A : Type 0} → Production A → A → List Tok → Type 0
@@ -42,53 +40,6 @@ pub flag_here : (w : List ℕ) (b : Bool) (r : List Tok) → bytes_eq w w ≡ tr
     → (flag w).spells b (spell_flag w b) r
 flag_here w true r e f = (Some tt, (e, word_here w e r), refl, refl)
 flag_here w false r e f = (None, (refl, f), refl, refl)
-
--- parts whose first tokens a test distinguishes from the tokens that may follow: more parts, a rest
-module _ {A : Type 0} (begins ends : List Tok → Bool) (g : Production A) (spell : A → List Tok)
-    (ok : A → Bool)
-    (here : (v : A) (r : List Tok) → ok v ≡ true → ends r ≡ true → g.spells v (spell v) r)
-    (front : (v : A) (x : List Tok) → ok v ≡ true → begins (spell v ++ x) ≡ true)
-    (further : (v : A) (x : List Tok) → ok v ≡ true → ends (spell v ++ x) ≡ true)
-  where
-    many_end : (vs : List A) (r : List Tok) → each ok vs ≡ true → ends r ≡ true
-        → ends (flat_map spell vs ++ r) ≡ true
-    many_end [] r o e = e
-    many_end (v ∷ vs) r o e =
-        subst (λ (l : List Tok). ends l ≡ true) (sym (append_assoc (spell v) (flat_map spell vs) r))
-        (further v (flat_map spell vs ++ r) (and_parts (ok v) (each ok vs) o).0)
-
-    pub many_told : (vs : List A) (r : List Tok) → each ok vs ≡ true → ends r ≡ true
-        → begins r ≡ false → many_spells begins g vs (flat_map spell vs) r
-    many_told [] r o e f = (refl, f)
-    many_told (v ∷ vs) r o e f =
-        let p = and_parts (ok v) (each ok vs) o in
-        let x = flat_map spell vs ++ r in (
-          spell v,
-          flat_map spell vs,
-          refl,
-          subst (λ (l : List Tok). begins l ≡ true)
-              (sym (append_assoc (spell v) (flat_map spell vs) r))
-              (front v x p.0),
-          here v x p.0 (many_end vs r p.1 e),
-          many_told vs r p.1 e f,
-        )
-
--- parts whose tokens spell their values before any rest
-pub many_here : {A : Type 0} (begins : List Tok → Bool) (g : Production A) (spell : A → List Tok)
-    (ok : A → Bool) → ((v : A) → ok v ≡ true → Spells g v (spell v))
-    → ((v : A) (x : List Tok) → ok v ≡ true → begins (spell v ++ x) ≡ true) → (vs : List A)
-    (r : List Tok) → each ok vs ≡ true → begins r ≡ false
-    → many_spells begins g vs (flat_map spell vs) r
-many_here begins g spell ok s b vs r o f =
-    many_told begins (λ _. true) g spell ok (λ v x k e. s v k x) b (λ v x k. refl) vs r o refl f
-
--- a part that is present, or a rest that doesn't begin a part
-pub option_here : {A : Type 0} (begins : List Tok → Bool) (g : Production A) (spell : A → List Tok)
-    (o : Option A) (r : List Tok) → ((v : A) → o ≡ Some v → begins (spell v ++ r) ≡ true)
-    → ((v : A) → o ≡ Some v → g.spells v (spell v) r) → (o ≡ None → begins r ≡ false)
-    → opt_spells begins g o (spell_option spell o) r
-option_here begins g spell (Some v) r b s n = (b v refl, s v refl)
-option_here begins g spell None r b s n = (refl, n refl)
 
 -- ---- tokens that can be written
 

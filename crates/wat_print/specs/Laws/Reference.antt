@@ -1,6 +1,6 @@
 -- Laws: indices, heap types, reference types and value types are read again.
-use Rattle.std.specs.Prelude.{◌≡◌, ℕ, ◌^◌, true, false, not, nat_lt, List, ◌∷◌, ◌++◌}
-use Rattle.std.specs.Prelude.{codes, decimal, ◌≤◌, ◌-◌, Option, Some, None, option_map}
+use Rattle.std.specs.Prelude.{◌≡◌, ℕ, ◌^◌, true, false, not, nat_lt, List, ◌∷◌, ◌++◌, codes}
+use Rattle.std.specs.Prelude.{decimal, ◌≤◌, ◌-◌, Option, Some, None, option_map}
 use Rattle.std.specs.Str.{bytes_eq}
 use Rattle.std.proofs.Common.{rules, refl, arith, subst}
 use Rattle.std.proofs.lemmas.Bool.{ltb-true}
@@ -10,14 +10,14 @@ use Rattle.wat_lexer.specs.Token.{Tok, LParen, Keyword, Id, Integer}
 use Rattle.wat_tokens.specs.Begin.{begins_one_of}
 use Rattle.wat_tokens.specs.Index.{Idx, number, name, index, index_of, begins_index}
 use Rattle.wat_tokens.specs.Tests.{begins_group, word_in}
-use Rattle.wat_types.specs.Heap.{concrete, exact, abstract_, heap_type}
-use Rattle.wat_types.specs.Heap.{abstract_heap_type, abstract_word, abstract_words}
-use Rattle.wat_types.specs.Reference.{ref_type, shorthand_for, shorthand, short}
-use Rattle.wat_types.specs.Reference.{shorthand_words}
-use Rattle.wat_types.specs.Value.{ValTy, i32, ref, val_type, plain_words}
+use Rattle.wat_types.specs.Heap.{concrete, exact, abstract_, heap_type, abstract_heap_type}
+use Rattle.wat_types.specs.Heap.{abstract_word, abstract_words}
+use Rattle.wat_types.specs.Reference.{ref_type, shorthand_for, shorthand, short, shorthand_words}
+use Rattle.wat_types.specs.Value.{ValTy, i32, ref, val_type, plain_words, v128}
 use Rattle.wat_types.specs.declared.heap.AbstractHeapType.{AbstractHeapType}
 use Rattle.wat_types.specs.declared.heap.AbstractHeapType.TheVariants as word
 use Rattle.wat_print.specs.Form.{Test}
+use Rattle.wat_print.specs.Parts.{each}
 use Rattle.wat_print.specs.WellFormed.{is_keyword, is_given, WellFormed, is_printable}
 use Rattle.wat_print.specs.Index.{spell_index, printable_index, OfIndices, index_form}
 use Rattle.wat_print.specs.Prints.{Prints}
@@ -27,7 +27,7 @@ use Rattle.wat_print.specs.Reference.{val_parts, val_form}
 use Rattle.wat_print.specs.Laws.Form.{one_prints, flag_prints, seq_prints, made_prints}
 use Rattle.wat_print.specs.Laws.Form.{whole_prints, else_prints, group_prints, unwritten_prints}
 use Rattle.wat_print.specs.Laws.Numbers.{decimal_printable, unsigned_decimal, unsigned_fits}
-use Rattle.wat_print.specs.Laws.Only.{OnlyPrintable, only_one, word_given}
+use Rattle.wat_print.specs.Laws.Only.{OnlyPrintable, only_one, word_given, table_word}
 use Rattle.wat_print.specs.Laws.Parts.{Spells, well_formed_one}
 
 -- ---- indices
@@ -133,8 +133,16 @@ short_prints = record {
 }
 
 no_null : (t : AbstractHeapType) → not (bytes_eq (abstract_word t) (codes "null")) ≡ true
-no_null word.Func = refl
-no_null _ = refl
+no_null t =
+    table_word (λ v. not (bytes_eq v (codes "null"))) abstract_words (abstract_word t) t refl
+    (abstract_reads t)
+
+-- no shorthand is the word
+pub no_short : (w : List ℕ) → each (λ e. not (bytes_eq e.0 w)) shorthand_words ≡ true
+    → (t : AbstractHeapType) → not (bytes_eq (short_word t) w) ≡ true
+no_short w a t =
+    table_word (λ v. not (bytes_eq v w)) shorthand_words (short_word t) (shorthand_for t) a
+    (short_reads t)
 
 pub ref_prints : Prints ref_form ref_type
 unfolding ref_type
@@ -158,6 +166,21 @@ plain_reads : (t : ValTy) → is_plain t ≡ true
     → word_in plain_words (Keyword (plain_word t)) ≡ Some t
 plain_reads (ref r) h = absurd cc
 plain_reads _ h = refl
+
+abbrev plain_value : ValTy → ValTy
+plain_value (ref r) = v128
+plain_value t = t
+
+plain_found : (t : ValTy) → word_in plain_words (Keyword (plain_word t)) ≡ Some (plain_value t)
+plain_found (ref r) = refl
+plain_found _ = refl
+
+-- no number or vector type is the word
+pub no_plain : (w : List ℕ) → each (λ e. not (bytes_eq e.0 w)) plain_words ≡ true → (t : ValTy)
+    → not (bytes_eq (plain_word t) w) ≡ true
+no_plain w a t =
+    table_word (λ v. not (bytes_eq v w)) plain_words (plain_word t) (plain_value t) a
+    (plain_found t)
 
 begins_plain_word : (t : ValTy) (y : List Tok)
     → begins_one_of (word_in plain_words) (Keyword (plain_word t) ∷ y) ≡ true

@@ -1,20 +1,20 @@
 -- Laws: memory accesses, orderings and lanes are read again.
 use Rattle.std.specs.Prelude.{not, ◌≡◌, ℕ, zero, suc, ◌^◌, ◌<◌, Bool, true, false, ◌&&◌, ◌||◌, ◌==◌}
 use Rattle.std.specs.Prelude.{List, [], ◌∷◌, ◌++◌, codes, decimal, Option, Some, None, is_none}
-use Rattle.std.specs.Prelude.{option_map, if◌then◌else◌}
+use Rattle.std.specs.Prelude.{option_map, if◌then◌else◌, unwrap_or}
 use Rattle.std.specs.Int.{is_power_of_two}
-use Rattle.std.proofs.Common.{rules, refl, ap, subst, sym, append_assoc, inl, inr, lit≤, arith}
-use Rattle.std.proofs.lemmas.Bool.{and_parts, cond_both, eqb-true, ltb-true}
+use Rattle.std.proofs.Common.{rules, refl, ap, subst, sym, append_assoc, inl, inr, lit≤, arith, ◌∙◌}
+use Rattle.std.proofs.lemmas.Bool.{and_parts, cond_both, eqb-true, ltb-true, or_right}
 use Rattle.std.proofs.lemmas.Fmt.{decimal_is_IsNumeral}
 use Rattle.wat_lexer.specs.Number.{unsigned_value, sign_of}
-use Rattle.wat_lexer.specs.Token.{Tok, LParen, RParen, Keyword, Integer}
-use Rattle.wat_tokens.specs.Index.{number, name, index, begins_index}
+use Rattle.wat_lexer.specs.Token.{Tok, LParen, Keyword, Integer}
+use Rattle.wat_tokens.specs.Index.{number, name, begins_index}
 use Rattle.wat_tokens.specs.Parts.{seq, opt}
 use Rattle.wat_tokens.specs.Production.{Production}
 use Rattle.wat_tokens.specs.Tests.{begins_word}
 use Rattle.wat_operands.specs.Align.{past_front, number_behind, field, number_in}
-use Rattle.wat_operands.specs.Lanes.{lane_of, lane_arg, lane_in, access_of, lane_alone, goes_on}
-use Rattle.wat_operands.specs.Lanes.{is_alone, LaneAccessTy, lane_access}
+use Rattle.wat_operands.specs.Lanes.{lane_of, lane_arg, lane_in, access_of, goes_on, is_alone}
+use Rattle.wat_operands.specs.Lanes.{LaneAccessTy, lane_access}
 use Rattle.wat_operands.specs.Laws.Power.{power_of_two-holds, power_of_two-tested}
 use Rattle.wat_operands.specs.Memory.{TargetTy, memory, array, target, array_follows, begins_with}
 use Rattle.wat_operands.specs.Memory.{offset_or_0, align, align_or, MemArgTy, mem_arg_of, mem_arg}
@@ -23,22 +23,21 @@ use Rattle.wat_operands.specs.Ordering.{ordering, begins_ordering, ordered}
 use Rattle.wat_operands.specs.Tables.{index_or_0}
 use Rattle.wat_operands.specs.declared.lanes.LaneArg.{LaneArg}
 use Rattle.wat_operands.specs.declared.memory.MemArgOrdering.{MemArgOrdering}
-use Rattle.wat_operands.specs.declared.memory.MemArgOrdering.TheVariants.{Op, Rmw}
 use Rattle.wat_operands.specs.declared.ordering.Ordering.{Ordering}
 use Rattle.wat_operands.specs.declared.ordering.Ordering.TheVariants.{AcqRel, SeqCst}
-use Rattle.wat_print.specs.Form.{Test, any, Form}
-use Rattle.wat_print.specs.Index.{spell_index}
+use Rattle.wat_print.specs.Form.{Test, any, Form, pick, told_form, group_form, filled_form}
+use Rattle.wat_print.specs.Index.{index_form}
 use Rattle.wat_print.specs.Limits.{is_u64, OfIntegers}
 use Rattle.wat_print.specs.Parts.{each, spell_option}
 use Rattle.wat_print.specs.Prints.{Prints, Unparses}
 use Rattle.wat_print.specs.WellFormed.{is_keyword, is_given}
 use Rattle.wat_print.specs.Laws.Form.{not_true, one_prints, word_prints, seq_prints, made_prints}
 use Rattle.wat_print.specs.Laws.Form.{whole_prints, whole_where, told_prints, else_prints}
-use Rattle.wat_print.specs.Laws.Form.{option_prints, group_prints, prints_only}
+use Rattle.wat_print.specs.Laws.Form.{option_prints, group_prints, prints_only, filled_prints}
 use Rattle.wat_print.specs.Laws.Only.{given_parts}
-use Rattle.wat_print.specs.Laws.Numbers.{no_sign, unsigned_decimal}
-use Rattle.wat_print.specs.Laws.Parts.{group_here, well_formed_both, and_also}
-use Rattle.wat_print.specs.Laws.Reference.{index_here, index_prints}
+use Rattle.wat_print.specs.Laws.Numbers.{no_sign}
+use Rattle.wat_print.specs.Laws.Parts.{well_formed_both, and_also}
+use Rattle.wat_print.specs.Laws.Reference.{index_prints}
 use Rattle.wat_print_instr.specs.Access.{no_type, target_parts, target_form, offset_form}
 use Rattle.wat_print_instr.specs.Access.{is_alignment, align_form, fields_form, Place, place_form}
 use Rattle.wat_print_instr.specs.Access.{place_of, printable_access, access_form, ordering_parts}
@@ -51,8 +50,8 @@ use Rattle.wat_print_instr.specs.Numbers.{numbered, OfNumbered, numbered_form, i
 use Rattle.wat_print_instr.specs.Places.{is_index_0}
 use Rattle.wat_print_instr.specs.Laws.Form.{default_prints, next_prints}
 use Rattle.wat_print_instr.specs.Laws.Numbers.{same_number, number_text, number_chars}
-use Rattle.wat_print_instr.specs.Laws.Numbers.{unsigned_printable, unsigned_found}
-use Rattle.wat_print_instr.specs.Laws.Places.{both_here, index_or_0_prints}
+use Rattle.wat_print_instr.specs.Laws.Numbers.{unsigned_printable, unsigned_found, unsigned_text}
+use Rattle.wat_print_instr.specs.Laws.Places.{index_or_0_prints}
 
 -- ---- targets
 
@@ -76,43 +75,33 @@ behind_given front (Keyword w) n a e = in_number (past_front front w) n e
 behind_given front LParen n a e = absurd cc
 behind_given front _ n a e = absurd cc
 
+past_behind : (front x : List ℕ) → past_front front (front ++ x) ≡ Some x
+unfolding past_front
+past_behind [] x = refl
+past_behind (b ∷ front) x = rw (same_number b) (past_behind front x)
+
 field_prints : (front : List ℕ)
     → ((n : ℕ) → n < 2 ^ 64 → is_keyword (front ++ decimal n) ≡ true)
-    → ((n : ℕ) → n < 2 ^ 64 → number_behind front (numbered front n) ≡ Some n)
     → Prints (numbered_form front is_u64) (field front)
 unfolding field
-field_prints front chars reads =
+field_prints front chars =
     one_prints (number_behind front) (refl, refl) (numbered front) is_u64 (OfNumbered front)
     (λ rest test f n y h k. f n y k) (λ n h. chars n (ltb-true n (2 ^ 64) h))
-    (λ n h. reads n (ltb-true n (2 ^ 64) h)) (behind_given front)
-
-offset_chars : (n : ℕ) → n < 2 ^ 64 → is_keyword (codes "offset=" ++ decimal n) ≡ true
-offset_chars n lt = rw (number_chars n lt) refl
-
-offset_reads : (n : ℕ) → n < 2 ^ 64
-    → number_behind (codes "offset=") (numbered (codes "offset=") n) ≡ Some n
-unfolding past_front
-offset_reads n lt = number_text n lt
+    (λ n h. ap number_in (past_behind front (decimal n))
+    ∙ number_text n (ltb-true n (2 ^ 64) h))
+    (behind_given front)
 
 offset_prints : Prints offset_form offset_or_0
 unfolding offset_or_0 past_front
 offset_prints =
     default_prints (begins_with (codes "offset="))
-    (field_prints (codes "offset=") offset_chars offset_reads) (λ n y h. refl) is_u64
+    (field_prints (codes "offset=") (λ n lt. rw (number_chars n lt) refl)) (λ n y h. refl) is_u64
     (λ n. n == 0) 0 (λ n e. sym (eqb-true n 0 e)) (λ n e h. h) (λ n h. h) refl
-
-align_chars : (n : ℕ) → n < 2 ^ 64 → is_keyword (codes "align=" ++ decimal n) ≡ true
-align_chars n lt = rw (number_chars n lt) refl
-
-align_reads : (n : ℕ) → n < 2 ^ 64
-    → number_behind (codes "align=") (numbered (codes "align=") n) ≡ Some n
-unfolding past_front
-align_reads n lt = number_text n lt
 
 power_prints : Prints (numbered_form (codes "align=") is_alignment) align
 unfolding align
 power_prints =
-    let p = field_prints (codes "align=") align_chars align_reads in
+    let p = field_prints (codes "align=") (λ n lt. rw (number_chars n lt) refl) in
     record {
       nests = λ n h. p.nests n (and_parts (is_power_of_two n) (is_u64 n) h).1;
       front = λ rest test f n r h i e. f n r i;
@@ -125,20 +114,12 @@ power_prints =
       );
     }
 
-or_second : (b c : Bool) → b ≡ false → b || c ≡ true → c ≡ true
-or_second b c e h = rw e at h
-
-or_is : (b c : Bool) → c ≡ true → b || c ≡ true
-or_is true c h = refl
-or_is false c h = h
-
 align_prints : (a : ℕ) → Prints (align_form a) (align_or a)
 unfolding align_or past_front
 align_prints a =
     default_prints (begins_with (codes "align=")) power_prints (λ n y h. refl)
     (λ n. (n == a) || is_alignment n) (λ n. n == a) a (λ n e. sym (eqb-true n a e))
-    (λ n e h. or_second (n == a) (is_alignment n) e h)
-    (λ n h. or_is (n == a) (is_alignment n) h) (rw (same_number a) refl)
+    (λ n e h. rw e at h) (λ n h. or_right (n == a) (is_alignment n) h) (rw (same_number a) refl)
 
 fields_prints : (a : ℕ) → Prints (fields_form a) (seq offset_or_0 (align_or a))
 unfolding past_front
@@ -158,12 +139,7 @@ is_absent (Some x) e = absurd cc
 
 unordered : (a : ℕ) (m : MemArgTy) → printable_access a m ≡ true → mem_arg_of (place_of m) ≡ m
 unordered a m h =
-    ap (λ (o : Option MemArgOrdering). record {
-      align = m.align;
-      offset = m.offset;
-      target = m.target;
-      ordering = o;
-    }) (is_absent m.ordering
+    ap (λ (o : Option MemArgOrdering). record m { ordering = o }) (is_absent m.ordering
     (and_parts ((place_form a).printable (place_of m)) (is_none m.ordering) h).1)
 
 pub access_prints : (a : ℕ) → Prints (access_form a) (mem_arg a)
@@ -194,17 +170,11 @@ ordered_prints p f = seq_prints ordering_prints p f
 
 kind_of : (rmw : Bool) (o : Option MemArgOrdering) → printable_ordering rmw o ≡ true
     → option_map (ordering_as rmw) (option_map ordering_in o) ≡ o
-kind_of rmw None h = refl
-kind_of true (Some (Rmw o)) h = refl
-kind_of false (Some (Op o)) h = refl
-kind_of true (Some (Op o)) h = absurd cc
-kind_of false (Some (Rmw o)) h = absurd cc
+kind_of rmw o h = grind arith
 
 kind_printable : (rmw : Bool) (o : Option Ordering)
     → printable_ordering rmw (option_map (ordering_as rmw) o) ≡ true
-kind_printable rmw None = refl
-kind_printable true (Some o) = refl
-kind_printable false (Some o) = refl
+kind_printable rmw o = grind arith
 
 fence_ready : (o : Option Ordering) → fence_form.ready o ≡ true
 fence_ready None = refl
@@ -223,12 +193,7 @@ module _ (a : ℕ) (rmw : Bool) where
 
   atomic_is : (m : MemArgTy) → printable_atomic a rmw m ≡ true → atomic_of (atomic_parts m) ≡ m
   atomic_is m h =
-      ap (λ (o : Option MemArgOrdering). record {
-        align = m.align;
-        offset = m.offset;
-        target = m.target;
-        ordering = o;
-      }) (kind_of rmw m.ordering
+      ap (λ (o : Option MemArgOrdering). record m { ordering = o }) (kind_of rmw m.ordering
       (and_parts ((place_form a).printable (place_of m)) (printable_ordering rmw m.ordering) h).1)
 
   pub atomic_prints : Prints (atomic_form a rmw) (atomic_mem_arg a rmw)
@@ -259,10 +224,7 @@ lane_number : (n : ℕ) → is_unsigned 8 n ≡ true → lane_in (Integer (decim
 lane_number n h =
     let lt : n < 2 ^ 8 = ltb-true n (2 ^ 8) h in
     let d = decimal_is_IsNumeral n (omega arith) in
-    let x = decimal n in
-    let k : is_none (sign_of x) ≡ true = ap is_none (no_sign x d.0.1).0 in
-    cond_both (is_none (sign_of x)) (unsigned_value 8 x) None (λ (o : Option ℕ). o ≡ Some n)
-    (λ e. (unsigned_decimal 8 n (omega arith) (omega arith))) (λ e. absurd cc)
+    rw (ap is_none (no_sign (decimal n) d.0.1).0) (unsigned_text 8 n (lit≤ tt) h)
 
 pub lane_prints : Prints lane_form lane_arg
 unfolding lane_arg
@@ -274,38 +236,32 @@ lane_prints =
 
 -- ---- the target before any tokens that aren't a part of it
 
--- Nothing is written for memory 0; then x begins neither with an index nor with a group of `type`.
-abbrev EndsTarget : TargetTy → List Tok → Type 0
-EndsTarget (memory (number zero)) x = (begins_index x ≡ false) × (array_follows x ≡ false)
-EndsTarget (memory _) x = begins_word (codes "type") x ≡ false
-EndsTarget (array i) x = Unit {0}
-
-target_here : (t : TargetTy) (x : List Tok) → target_form.ready t ≡ true → EndsTarget t x
-    → target.spells t (target_form.spell t) x
-unfolding target index_or_0
-target_here (memory (number zero)) x f e =
-    inr (e.1, (number 0, (None, (refl, e.0), refl, refl), refl, refl))
-target_here (memory (number (suc n))) x f e =
-    let s = index_here (number (suc n)) f x in
-    inr (e, (number (suc n), (Some (number (suc n)), (refl, s), refl, refl), refl, refl))
-target_here (memory (name y)) x f e =
-    inr (e, (name y, (Some (name y), (refl, index_here (name y) f x), refl, refl), refl, refl))
-target_here (array i) x f e =
-    inl (
-      refl,
-      (
-        i,
-        group_here (codes "type") index i (spell_index i) x refl (index_here i f (RParen ∷ x)),
-        refl,
-        refl,
-      ),
-    )
-
--- ---- accesses to one lane
-
 abbrev is_memory_0 : TargetTy → Bool
 is_memory_0 (memory i) = is_index_0 i
 is_memory_0 (array i) = false
+
+-- a target that isn't omitted
+full_target : Unparses
+    (told_form no_type array_follows (group_form (codes "type") index_form)
+    (filled_form begins_index index_form))
+    (pick array (λ o. memory (unwrap_or o (number 0)))) target
+unfolding target index_or_0
+full_target =
+    told_prints no_type array_follows
+    (made_prints (group_prints index_prints (codes "type") refl refl) array)
+    (made_prints (made_prints (filled_prints begins_index index_prints (search rules))
+    (λ o. unwrap_or o (number 0))) memory) (λ i r h k. refl) (search rules)
+
+target_here : (t : TargetTy) (x : List Tok) → target_form.ready t ≡ true → no_type x ≡ true
+    → (is_memory_0 t ≡ true → target_form.follows x ≡ true)
+    → target.spells t (target_form.spell t) x
+target_here (memory (number zero)) x f e k = target_prints.here (memory (number 0)) x f (k refl)
+target_here (memory (number (suc n))) x f e k =
+    full_target.here (inr (Some (number (suc n)))) x f (rw e refl)
+target_here (memory (name y)) x f e k = full_target.here (inr (Some (name y))) x f (rw e refl)
+target_here (array i) x f e k = full_target.here (inl i) x f (rw e refl)
+
+-- ---- accesses to one lane
 
 -- the tokens of the offset and the alignment; the flags are true if they are omitted
 abbrev two_words : Bool → Bool → ℕ → ℕ → List Tok
@@ -314,11 +270,13 @@ two_words b c n k =
     ++ spell_option (numbered_form (codes "align=") is_alignment).spell
     (if c then None else Some k)
 
-words_first : (b c : Bool) (n k : ℕ) (x : List Tok) → b && c ≡ false
-    → begins_index (two_words b c n k ++ x) ≡ false
-words_first true true n k x e = absurd cc
-words_first true false n k x e = refl
-words_first false c n k x e = refl
+-- no tokens of the offset and the alignment are read as a target
+words_follow : (b c : Bool) (n k : ℕ) (l : List ℕ) (r : List Tok) → b && c ≡ false
+    → target_form.follows (two_words b c n k ++ Integer l ∷ r) ≡ true
+words_follow true true n k l r e = absurd cc
+words_follow true false n k l r e = refl
+words_follow false true n k l r e = refl
+words_follow false false n k l r e = refl
 
 not_alone : (t : TargetTy) (b c : Bool) (n k : ℕ) (l : List ℕ) (r : List Tok)
     → is_memory_0 t && (b && c) ≡ false
@@ -338,73 +296,53 @@ module _ (a : ℕ) where
   abbrev is_bare : Place → Bool
   is_bare v = is_memory_0 v.0 && ((v.1.0 == 0) && (v.1.1 == a))
 
-  ends_place : (t : TargetTy) (n k : ℕ) (l : List ℕ) (r : List Tok)
-      → (fields_form a).ready (n, k) ≡ true → is_bare (t, (n, k)) ≡ false → no_type r ≡ true
-      → EndsTarget t ((fields_form a).spell (n, k) ++ Integer l ∷ r)
-  unfolding past_front
-  ends_place (memory (number zero)) n k l r f b e = (
-    words_first (n == 0) (k == a) n k (Integer l ∷ r) b,
-    not_true (array_follows ((fields_form a).spell (n, k) ++ Integer l ∷ r))
-        ((fields_prints a).front no_type (λ t. not (array_follows t)) (search rules) (n, k)
-        (Integer l ∷ r) f refl e),
-  )
-  ends_place (memory (number (suc m))) n k l r f b e =
-      not_true (begins_word (codes "type") ((fields_form a).spell (n, k) ++ Integer l ∷ r))
-      ((fields_prints a).front no_type no_type (search rules) (n, k) (Integer l ∷ r) f refl refl)
-  ends_place (memory (name y)) n k l r f b e =
-      not_true (begins_word (codes "type") ((fields_form a).spell (n, k) ++ Integer l ∷ r))
-      ((fields_prints a).front no_type no_type (search rules) (n, k) (Integer l ∷ r) f refl refl)
-  ends_place (array i) n k l r f b e = tt
-
   place_here : (v : Place) (l : List ℕ) (r : List Tok) → (place_form a).ready v ≡ true
-      → is_bare v ≡ false → no_type r ≡ true
+      → is_bare v ≡ false
       → (mem_arg a).spells (mem_arg_of v) ((place_form a).spell v) (Integer l ∷ r)
   unfolding mem_arg past_front
-  place_here v l r h b e =
+  place_here v l r h b =
       let k = and_parts (target_form.ready v.0) ((fields_form a).ready v.1) h in
       let s = (fields_form a).spell v.1 in
-      let x = Integer l ∷ r in (
+      let x = Integer l ∷ r in
+      let e = (fields_prints a).front no_type no_type (search rules) v.1 x k.1 refl refl in (
         v,
-        both_here target (seq offset_or_0 (align_or a)) v.0 v.1 (target_form.spell v.0) s x
-            (target_here v.0 (s ++ x) k.0 (ends_place v.0 v.1.0 v.1.1 l r k.1 b e))
-            ((fields_prints a).here v.1 x k.1 refl),
+        (
+          target_form.spell v.0,
+          s,
+          refl,
+          target_here v.0 (s ++ x) k.0 e (λ m.
+              words_follow (v.1.0 == 0) (v.1.1 == a) v.1.0 v.1.1 l r (rw m at b)),
+          (fields_prints a).here v.1 x k.1 refl,
+        ),
         refl,
         refl,
       )
 
   bare_is : (t : TargetTy) (n k : ℕ) → is_bare (t, (n, k)) ≡ true
       → ◌≡◌ {A = Place} (memory (number 0), (0, a)) (t, (n, k))
-  bare_is (memory (number zero)) n k b =
-      let e = and_parts (n == 0) (k == a) b in rw (eqb-true n 0 e.0, eqb-true k a e.1) refl
-  bare_is (memory (number (suc m))) n k b = absurd cc
-  bare_is (memory (name y)) n k b = absurd cc
-  bare_is (array i) n k b = absurd cc
-
-  alone_here : (l : LaneArg) (r : List Tok) → lane_form.ready l ≡ true → goes_on r ≡ false
-      → (lane_access a).spells (lane_alone a l)
-      ((place_form a).spell (memory (number 0), (0, a)) ++ lane_form.spell l) r
-  unfolding lane_access
-  alone_here l r h e =
-      rw (same_number a) (inl (ap not e, (l, lane_prints.here l r h refl, refl, refl)))
+  bare_is t n k b = grind arith
 
   lane_by : (b : Bool) (v : Place) (l : LaneArg) (r : List Tok) → is_bare v ≡ b
-      → (place_form a).ready v ≡ true → lane_form.ready l ≡ true → no_type r ≡ true
-      → goes_on r ≡ false
+      → (place_form a).ready v ≡ true → lane_form.ready l ≡ true → goes_on r ≡ false
       → (lane_access a).spells (access_of (mem_arg_of v, l))
       ((place_form a).spell v ++ lane_form.spell l) r
   unfolding lane_access
-  lane_by true v l r b h k e f =
+  lane_by true v l r b h k e =
       subst (λ (w : Place). (lane_access a).spells (access_of (mem_arg_of w, l))
       ((place_form a).spell w ++ lane_form.spell l) r) (bare_is v.0 v.1.0 v.1.1 b)
-      (alone_here l r k f)
-  lane_by false v l r b h k e f =
+      (rw (same_number a) (inl (ap not e, (l, lane_prints.here l r k refl, refl, refl))))
+  lane_by false v l r b h k e =
       inr (
         not_alone v.0 (v.1.0 == 0) (v.1.1 == a) v.1.0 v.1.1 (decimal l.lane) r b,
         (
           (mem_arg_of v, l),
-          both_here (mem_arg a) lane_arg (mem_arg_of v) l ((place_form a).spell v)
-              (lane_form.spell l) r (place_here v (decimal l.lane) r h b e)
-              (lane_prints.here l r k refl),
+          (
+            (place_form a).spell v,
+            lane_form.spell l,
+            refl,
+            place_here v (decimal l.lane) r h b,
+            lane_prints.here l r k refl,
+          ),
           refl,
           refl,
         ),
@@ -443,16 +381,15 @@ module _ (a : ℕ) where
       ((and_parts ((place_form a).printable (place_of m)) (is_none m.ordering) k.0).0, k.1)
 
   lane_access_here : (l : LaneAccessTy) (r : List Tok) → printable_lane_access a l ≡ true
-      → no_type r && not (goes_on r) ≡ true
+      → not (goes_on r) ≡ true
       → (lane_access a).spells l ((lane_access_form a).spell l) r
   lane_access_here l r h e =
-      let k = and_parts (no_type r) (not (goes_on r)) e in
       let v = place_of l.memarg in
       let w = place_ready l h in
       let o = and_parts (printable_access a l.memarg) (lane_form.printable l.lane) h in
       subst (λ (m : MemArgTy). (lane_access a).spells (access_of (m, l.lane))
       ((lane_access_form a).spell l) r) (unordered a l.memarg o.0)
-      (lane_by (is_bare v) v l.lane r refl w.0 w.1 k.0 (not_true (goes_on r) k.1))
+      (lane_by (is_bare v) v l.lane r refl w.0 w.1 (not_true (goes_on r) e))
 
   pub lane_access_prints : Prints (lane_access_form a) (lane_access a)
   lane_access_prints = record {

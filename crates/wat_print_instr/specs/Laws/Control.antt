@@ -28,14 +28,13 @@ use Rattle.wat_print.specs.Form.{any}
 use Rattle.wat_print.specs.Label.{by_itself}
 use Rattle.wat_print.specs.Function.{vals_form}
 use Rattle.wat_print.specs.Prints.{Prints}
-use Rattle.wat_print.specs.Laws.Use.{EndsUse}
+use Rattle.wat_print.specs.Laws.Use.{EndsUse, unnamed_use_prints}
 use Rattle.wat_print.specs.Laws.Form.{word_prints, seq_prints, made_prints, whole_prints}
 use Rattle.wat_print.specs.Laws.Form.{whole_where, respelled, else_prints, option_prints}
 use Rattle.wat_print.specs.Laws.Form.{many_prints, paren_prints, after_prints, group_prints}
 use Rattle.wat_print.specs.Laws.Label.{id_prints, label_prints}
 use Rattle.wat_print.specs.Laws.Parts.{and_also, each_all}
 use Rattle.wat_print.specs.Laws.Reference.{index_prints, ref_prints, val_prints}
-use Rattle.wat_print.specs.Laws.Use.{unnamed_use_prints}
 use Rattle.wat_print.specs.Reference.{val_form}
 use Rattle.wat_print_instr.specs.Control.{block_parts, block_form, call_parts, call_form}
 use Rattle.wat_print_instr.specs.Control.{end_label_form, result_form, results_form, select_form}

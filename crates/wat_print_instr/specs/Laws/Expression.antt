@@ -1,21 +1,18 @@
 -- Laws: the round trip of an expression at the end of its group, and the first tokens of an
 -- expression. Each printable expression is well-formed.
-use Rattle.std.specs.Prelude.{◌≡◌, ℕ, zero, suc, ◌+◌, ◌<◌, Bool, true, false, ◌&&◌, ◌||◌, ◌==◌}
-use Rattle.std.specs.Prelude.{nat_lt, List, [], ◌∷◌, ◌++◌, flat_map, length, slice_index, Option}
-use Rattle.std.specs.Prelude.{Some, None, codes, option_map, is_some, if◌then◌else◌}
+use Rattle.std.specs.Prelude.{◌≡◌, ℕ, ◌+◌, ◌<◌, Bool, true, false, ◌&&◌, ◌==◌, nat_lt, List, []}
+use Rattle.std.specs.Prelude.{◌∷◌, ◌++◌, flat_map, Option, Some, None, codes, option_map, is_some}
+use Rattle.std.specs.Prelude.{if◌then◌else◌, not}
 use Rattle.std.specs.Str.{bytes_eq}
-use Rattle.std.proofs.Common.{refl, ap, subst, sym, ◌∙◌, append_assoc, get_or, arith, rules}
-use Rattle.std.proofs.lemmas.Bool.{and_parts, or_parts, cond_both, eqb-true, ltb-true}
+use Rattle.std.proofs.Common.{refl, ap, subst, sym, append_assoc, arith, rules}
+use Rattle.std.proofs.lemmas.Bool.{and_parts, eqb-true, ltb-true, or_from}
 use Rattle.std.proofs.lemmas.Bool.Decides.{nat_tests}
-use Rattle.std.proofs.lemmas.Str.{is_utf8-from_IsUtf8, IsUtf8-from_ascii}
 use Rattle.wat_lexer.specs.Token.{Tok, LParen, RParen, Keyword, String}
 use Rattle.wat_tokens.specs.Tests.{begins_word, ends, second}
+use Rattle.wat_mnemonics.specs.Table.{all_ops}
 use Rattle.wat_operands.specs.Align.{past_front}
 use Rattle.wat_mnemonics.specs.Ops.{op_word, op_row}
-use Rattle.wat_mnemonics.specs.Laws.Places.{there, place_below, table_length}
-use Rattle.wat_mnemonics.specs.Order.{first}
-use Rattle.wat_mnemonics.specs.Places.{op_of_row, place}
-use Rattle.wat_mnemonics.specs.Table.{all_ops}
+use Rattle.wat_mnemonics.specs.Places.{op_of_row}
 use Rattle.wat_mnemonics.specs.declared.op.Op.{Op}
 use Rattle.wat_instr.specs.Follows.{NoTypeSecond}
 use Rattle.wat_instr.specs.Instruction.{Instr}
@@ -24,9 +21,9 @@ use Rattle.wat_expr.specs.Expression.{Expr}
 use Rattle.wat_expr.specs.ExpressionProduction.{expression}
 use Rattle.wat_expr.specs.Items.{Items, Nil, Plain, Hinted, lists, unfolded, hints_behind}
 use Rattle.wat_expr.specs.Items.{is_branch, hint_name, mark}
-use Rattle.wat_print.specs.WellFormed.{WellFormed, nothing, noted, is_name, is_printable, is_byte}
+use Rattle.wat_print.specs.WellFormed.{WellFormed, nothing, noted, is_printable, is_byte}
 use Rattle.wat_print.specs.Parts.{each, if_some, spell_option}
-use Rattle.wat_print.specs.Text.{all_are}
+use Rattle.wat_print.specs.Laws.Annotation.{ascii_name}
 use Rattle.wat_print.specs.Laws.Parts.{well_formed_both, well_formed_each, well_formed_one}
 use Rattle.wat_print_instr.specs.ExpressionForm.{HintedInstr, step_of, spell_hint, printable_hint}
 use Rattle.wat_print_instr.specs.ExpressionForm.{spell_step, printable_step, steps_from}
@@ -36,75 +33,35 @@ use Rattle.wat_print_instr.specs.InstructionForm.{passes, operand_form, spell_in
 use Rattle.wat_print_instr.specs.InstructionForm.{printable_instruction}
 use Rattle.wat_print_instr.specs.Laws.Instruction.{EndsOperand, ends_nothing, ends_annotation}
 use Rattle.wat_print_instr.specs.Laws.Instruction.{instruction_here, instruction_well_formed}
+use Rattle.wat_print_instr.specs.Laws.Instruction.{no_word}
 use Rattle.wat_print_instr.specs.Laws.OperandFront.{NoOperandWord, clear_both, operand_clear}
 
 -- ---- no mnemonic is a word that the parser looks for
 
--- the parser looks for the word before an instruction, or first after the operand
-abbrev is_sought : List ℕ → Bool
-is_sought u =
-    bytes_eq u (codes "type") || (bytes_eq u (codes "param") || (bytes_eq u (codes "result")
-    || (bytes_eq u (codes "local") || (bytes_eq u (codes "shared") || (bytes_eq u (codes "mut")
-    || (bytes_eq u (codes "seqcst") || (bytes_eq u (codes "acqrel")
-    || (is_some (past_front (codes "offset=") u) || is_some (past_front (codes "align=") u)))))))))
+-- the word is not a mnemonic
+abbrev pub NoMnemonic : List ℕ → Type 0
+NoMnemonic w = (h : Op) → bytes_eq (op_word h) w ≡ false
 
-pub record Unsought (u : List ℕ) : Type 0 where
-  pub no_type : bytes_eq u (codes "type") ≡ false
-  pub no_param : bytes_eq u (codes "param") ≡ false
-  pub no_result : bytes_eq u (codes "result") ≡ false
-  pub no_local : bytes_eq u (codes "local") ≡ false
-  pub no_shared : bytes_eq u (codes "shared") ≡ false
-  pub no_mut : bytes_eq u (codes "mut") ≡ false
-  pub no_seqcst : bytes_eq u (codes "seqcst") ≡ false
-  pub no_acqrel : bytes_eq u (codes "acqrel") ≡ false
-  pub no_offset : is_some (past_front (codes "offset=") u) ≡ false
-  pub no_align : is_some (past_front (codes "align=") u) ≡ false
+pub no_mnemonic : (w : List ℕ) → each (λ h. not (bytes_eq (op_word h) w)) all_ops ≡ true
+    → NoMnemonic w
+no_mnemonic w e h = no_word (λ u. bytes_eq u w) e h
 
-not_sought : (u : List ℕ) → is_sought u ≡ false → Unsought u
-not_sought u e =
-    let a = or_parts _ _ e in
-    let b = or_parts _ _ a.1 in
-    let c = or_parts _ _ b.1 in
-    let d = or_parts _ _ c.1 in
-    let f = or_parts _ _ d.1 in
-    let g = or_parts _ _ f.1 in
-    let h = or_parts _ _ g.1 in
-    let i = or_parts _ _ h.1 in
-    let j = or_parts _ _ i.1 in record {
-      no_type = a.0;
-      no_param = b.0;
-      no_result = c.0;
-      no_local = d.0;
-      no_shared = f.0;
-      no_mut = g.0;
-      no_seqcst = h.0;
-      no_acqrel = i.0;
-      no_offset = j.0;
-      no_align = j.1;
-    }
+pub no_type : NoMnemonic (codes "type")
+no_type = no_mnemonic (codes "type") refl
 
-abbrev any_sought : List Op → Bool
-any_sought [] = false
-any_sought (x ∷ xs) = is_sought (op_word x) || any_sought xs
+pub no_param : NoMnemonic (codes "param")
+no_param = no_mnemonic (codes "param") refl
 
-none_sought : any_sought all_ops ≡ false
+pub no_result : NoMnemonic (codes "result")
+no_result = no_mnemonic (codes "result") refl
+
+no_offset : (h : Op) → is_some (past_front (codes "offset=") (op_word h)) ≡ false
 unfolding past_front
-none_sought = refl
+no_offset h = no_word (λ u. is_some (past_front (codes "offset=") u)) refl h
 
-sought_at : (xs : List Op) (k : ℕ) → any_sought xs ≡ false → k < length xs
-    → is_sought (op_word (get_or xs k first)) ≡ false
-sought_at [] k e l = absurd (omega (arith, l))
-sought_at (x ∷ xs) zero e l = (or_parts (is_sought (op_word x)) (any_sought xs) e).0
-sought_at (x ∷ xs) (suc k) e l =
-    sought_at xs k ((or_parts (is_sought (op_word x)) (any_sought xs) e).1)
-    (omega (arith, l))
-
-pub word_unsought : (h : Op) → Unsought (op_word h)
-word_unsought h =
-    let e = sought_at all_ops (place h) none_sought
-    (let l = table_length in let b = place_below h in omega arith) in
-    not_sought (op_word h)
-    (subst (λ (x : Op). is_sought (op_word x) ≡ false) (there h) e)
+no_align : (h : Op) → is_some (past_front (codes "align=") (op_word h)) ≡ false
+unfolding past_front
+no_align h = no_word (λ u. is_some (past_front (codes "align=") u)) refl h
 
 -- ---- the first tokens of steps
 
@@ -125,10 +82,6 @@ steps_first : (test : List Tok → Bool) → OnWords test → OnHints test → (
 steps_first test f g [] r e = e
 steps_first test f g (x ∷ xs) r e =
     step_first test f g x.hint x.instr (flat_map spell_step xs) r
-
--- the word is not a mnemonic
-abbrev pub NoMnemonic : List ℕ → Type 0
-NoMnemonic w = (h : Op) → bytes_eq (op_word h) w ≡ false
 
 step_word : (w : List ℕ) → NoMnemonic w → (h : Option ℕ) (i : Instr) (s : List Tok)
     → begins_word w (spell_step (step_of h i) ++ s) ≡ false
@@ -167,52 +120,50 @@ steps_second w a n (x ∷ xs) r k e f =
 
 -- ---- the first tokens of an expression
 
-expression_of : (P : List Tok → Type 0) → P []
-    → ((xs : List HintedInstr) → P (flat_map spell_step xs))
-    → (o : Option (List HintedInstr)) → P (spell_option (flat_map spell_step) o)
-expression_of P e f (Some xs) = f xs
-expression_of P e f None = e
+first_of : (test : List Tok → Bool) → OnWords test → OnHints test
+    → (o : Option (List HintedInstr)) (r : List Tok) → test r ≡ false
+    → test (spell_option (flat_map spell_step) o ++ r) ≡ false
+first_of test f g (Some xs) r k = steps_first test f g xs r k
+first_of test f g None r k = k
 
 -- if the test fails for words and hints, the test fails for expressions
 pub expression_first : (test : List Tok → Bool) → OnWords test → OnHints test → (e : Expr)
     (r : List Tok) → test r ≡ false → test (spell_expression e ++ r) ≡ false
-expression_first test f g e r k =
-    expression_of (λ c. test (c ++ r) ≡ false) k (λ xs. (steps_first test f g xs r k))
-    (steps_from 0 e.instrs e.hints)
+expression_first test f g e r k = first_of test f g (steps_from 0 e.instrs e.hints) r k
 
-found_second : (w : List ℕ) → NoOperandWord w → NoMnemonic w → (o : Option (List HintedInstr))
-    (r : List Tok) → passes (each printable_step) o ≡ true → ends r ≡ true
-    → second (begins_word w) r ≡ false
-    → second (begins_word w) (spell_option (flat_map spell_step) o ++ r) ≡ false
-found_second w a n (Some xs) r f k l = steps_second w a n xs r f k l
-found_second w a n None r f k l = absurd cc
+-- a fact about the tokens of printable steps
+steps_have : (P : List Tok → Type 0)
+    → ((xs : List HintedInstr) → each printable_step xs ≡ true → P (flat_map spell_step xs))
+    → (o : Option (List HintedInstr)) → passes (each printable_step) o ≡ true
+    → P (spell_option (flat_map spell_step) o)
+steps_have P f (Some xs) h = f xs h
+steps_have P f None h = absurd cc
 
 -- the second token of a printable expression isn't the word
 pub expression_second : (w : List ℕ) → NoOperandWord w → NoMnemonic w → (e : Expr) (r : List Tok)
     → printable_expression e ≡ true → ends r ≡ true → second (begins_word w) r ≡ false
     → second (begins_word w) (spell_expression e ++ r) ≡ false
-expression_second w a n e r f k l = found_second w a n (steps_from 0 e.instrs e.hints) r f k l
-
-no_type : NoMnemonic (codes "type")
-no_type h = (word_unsought h).no_type
-
-no_param : NoMnemonic (codes "param")
-no_param h = (word_unsought h).no_param
-
-no_result : NoMnemonic (codes "result")
-no_result h = (word_unsought h).no_result
+expression_second w a n e r f k l =
+    steps_have (λ c. second (begins_word w) (c ++ r) ≡ false)
+    (λ xs h. steps_second w a n xs r h k l) (steps_from 0 e.instrs e.hints) f
 
 -- an expression may be followed by nothing, or by a `)` without any of the three words after it
 abbrev pub EndsExpression : List Tok → Type 0
 EndsExpression r = (ends r ≡ true) × NoTypeSecond r
 
+steps_no_type : (xs : List HintedInstr) (r : List Tok) → each printable_step xs ≡ true
+    → EndsExpression r → NoTypeSecond (flat_map spell_step xs ++ r)
+steps_no_type xs r f k = (
+  steps_second (codes "type") refl no_type xs r f k.0 k.1.0,
+  steps_second (codes "param") refl no_param xs r f k.0 k.1.1,
+  steps_second (codes "result") refl no_result xs r f k.0 k.1.2,
+)
+
 pub expression_no_type : (e : Expr) (r : List Tok) → printable_expression e ≡ true
     → EndsExpression r → NoTypeSecond (spell_expression e ++ r)
-expression_no_type e r f k = (
-  expression_second (codes "type") refl no_type e r f k.0 k.1.0,
-  expression_second (codes "param") refl no_param e r f k.0 k.1.1,
-  expression_second (codes "result") refl no_result e r f k.0 k.1.2,
-)
+expression_no_type e r f k =
+    steps_have (λ c. NoTypeSecond (c ++ r)) (λ xs h. steps_no_type xs r h k)
+    (steps_from 0 e.instrs e.hints) f
 
 -- ---- the tokens that may follow an instruction
 
@@ -220,30 +171,19 @@ word_ends : {w : Op} (h : Op) (y : List Tok)
     → NoTypeSecond (Keyword (op_word h) ∷ y)
     → EndsOperand w (Keyword (op_word h) ∷ y)
 word_ends h y n =
-    let p = word_unsought h in record {
-      no_index = refl;
-      no_lane = rw (p.no_offset, p.no_align) refl;
-      no_ordering = rw (p.no_seqcst, p.no_acqrel) refl;
-      no_result = n.2;
-      no_catch = λ t. refl;
-      no_handler = refl;
-      access = (p.no_offset, p.no_align, p.no_type, n.0);
-      block = ((n.0, refl, rw (n.1, n.2) refl), refl, refl);
-    }
+    search (
+      rules,
+      or_from,
+      no_offset h,
+      no_align h,
+      no_type h,
+      no_mnemonic (codes "seqcst") refl h,
+      no_mnemonic (codes "acqrel") refl h,
+    )
 
 pub end_ends : {w : Op} (r : List Tok) → EndsExpression r → EndsOperand w r
 end_ends [] e = ends_nothing
-end_ends (RParen ∷ x) e =
-    let n = e.1 in record {
-      no_index = refl;
-      no_lane = refl;
-      no_ordering = refl;
-      no_result = n.2;
-      no_catch = λ t. refl;
-      no_handler = refl;
-      access = (refl, refl, refl, n.0);
-      block = ((n.0, refl, rw (n.1, n.2) refl), refl, refl);
-    }
+end_ends (RParen ∷ x) e = search (rules, or_from)
 end_ends (_ ∷ x) e = absurd cc
 
 step_ends : {w : Op} (h : Option ℕ) (i : Instr) (s t : List Tok)
@@ -256,11 +196,40 @@ steps_ends : {w : Op} (xs : List HintedInstr) (r : List Tok) → each printable_
     → EndsExpression r → EndsOperand w (flat_map spell_step xs ++ r)
 steps_ends [] r k e = end_ends r e
 steps_ends (x ∷ xs) r k e =
-    step_ends x.hint x.instr (flat_map spell_step xs) r (
-      steps_second (codes "type") refl no_type (x ∷ xs) r k e.0 e.1.0,
-      steps_second (codes "param") refl no_param (x ∷ xs) r k e.0 e.1.1,
-      steps_second (codes "result") refl no_result (x ∷ xs) r k e.0 e.1.2,
-    )
+    step_ends x.hint x.instr (flat_map spell_step xs) r (steps_no_type (x ∷ xs) r k e)
+
+-- ---- the first step, and the others
+
+step_by : (t : Bool) (b : ℕ) (i : Instr) (is : List Instr) (h : ℕ × ℕ) (hs : List (ℕ × ℕ))
+    → (if t then option_map (λ xs. step_of (Some h.1) i ∷ xs) (steps_from (b + 1) is hs)
+    else option_map (λ xs. step_of None i ∷ xs) (steps_from (b + 1) is (h ∷ hs)))
+    ≡ option_map (λ xs. step_of (if t then Some h.1 else None) i ∷ xs)
+    (steps_from (b + 1) is (if t then hs else h ∷ hs))
+step_by true b i is h hs = refl
+step_by false b i is h hs = refl
+
+-- the first step has the first hint, if the index of the hint is b
+pub next_step : (b : ℕ) (i : Instr) (is : List Instr) (hs : List (ℕ × ℕ))
+    → steps_from b (i ∷ is) hs
+    ≡ option_map (λ xs. step_of (hint_for b hs) i ∷ xs) (steps_from (b + 1) is (hints_after b hs))
+next_step b i is [] = refl
+next_step b i is (h ∷ hs) = step_by (h.0 == b) b i is h hs
+
+marked_by : (t : Bool) (b : ℕ) (h : ℕ × ℕ) (hs : List (ℕ × ℕ)) → (t ≡ true → h.0 ≡ b)
+    → mark (if t then Some h.1 else None) b ++ (if t then hs else h ∷ hs) ≡ h ∷ hs
+marked_by true b h hs e = ap (λ (n : ℕ). (n, h.1) ∷ hs) (sym (e refl))
+marked_by false b h hs e = refl
+
+-- the hint of the instruction at the index b, and the hints after it
+marked_first : (b : ℕ) (hs : List (ℕ × ℕ)) → mark (hint_for b hs) b ++ hints_after b hs ≡ hs
+marked_first b [] = refl
+marked_first b (h ∷ hs) = marked_by (h.0 == b) b h hs (eqb-true h.0 b)
+
+pub step_more : (h : Option ℕ) (i : Instr) (o : Option (List HintedInstr))
+    → printable_step (step_of h i) ≡ true → passes (each printable_step) o ≡ true
+    → passes (each printable_step) (option_map (λ xs. step_of h i ∷ xs) o) ≡ true
+step_more h i (Some xs) f g = rw (f, g) refl
+step_more h i None f g = absurd cc
 
 -- ---- steps are items
 
@@ -299,58 +268,47 @@ steps_listed (x ∷ xs) s f e =
     (one_listed x.hint x.instr xs (flat_map spell_step xs ++ s) s a.0 (steps_listed xs s a.1 e)
     (steps_ends xs s a.1 e))
 
+-- the expression of the items of steps, with the index b for the first instruction
+abbrev expression_from : ℕ → List HintedInstr → Expr
+expression_from b xs = record {
+  instrs = unfolded (items_of xs);
+  hints = hints_behind None (items_of xs) b;
+}
+
+abbrev Unfolds : ℕ → Expr → Option (List HintedInstr) → Type 0
+Unfolds b e (Some xs) = e ≡ expression_from b xs
+Unfolds b e None = Unit {0}
+
+-- an instruction before the expression, with the index b
+abbrev before : ℕ → Option ℕ → Instr → Expr → Expr
+before b h i e = record { instrs = i ∷ e.instrs; hints = mark h b ++ e.hints }
+
+unfolds_more : (b : ℕ) (h : Option ℕ) (i : Instr) (e : Expr) (o : Option (List HintedInstr))
+    → Unfolds (b + 1) e o → Unfolds b (before b h i e) (option_map (λ xs. step_of h i ∷ xs) o)
+unfolds_more b (Some v) i e (Some xs) u = ap (before b (Some v) i) u
+unfolds_more b None i e (Some xs) u = ap (before b None i) u
+unfolds_more b h i e None u = tt
+
 -- the items of steps unfold to the instructions and hints of the steps
-abbrev Unfolds : ℕ → List Instr → List (ℕ × ℕ) → Option (List HintedInstr) → Type 0
-Unfolds b is hs (Some xs) =
-    (is ≡ unfolded (items_of xs)) × (hs ≡ hints_behind None (items_of xs) b)
-Unfolds b is hs None = Unit {0}
-
-unfolds_more : (b : ℕ) (i : Instr) (is : List Instr) (h : Option ℕ) (hs : List (ℕ × ℕ))
-    (o : Option (List HintedInstr)) → Unfolds (b + 1) is hs o
-    → Unfolds b (i ∷ is) (mark h b ++ hs) (option_map (λ xs. step_of h i ∷ xs) o)
-unfolds_more b i is (Some v) hs (Some xs) e = (
-  ap (λ (l : List Instr). i ∷ l) e.0,
-  ap (λ (l : List (ℕ × ℕ)). mark (Some v) b ++ l) e.1,
-)
-unfolds_more b i is None hs (Some xs) e = (
-  ap (λ (l : List Instr). i ∷ l) e.0,
-  ap (λ (l : List (ℕ × ℕ)). mark None b ++ l) e.1,
-)
-unfolds_more b i is h hs None e = tt
-
 steps_unfold : (b : ℕ) (is : List Instr) (hs : List (ℕ × ℕ))
-    → Unfolds b is hs (steps_from b is hs)
-steps_unfold b [] [] = (refl, refl)
+    → Unfolds b (record { instrs = is; hints = hs }) (steps_from b is hs)
+steps_unfold b [] [] = refl
 steps_unfold b [] (h ∷ hs) = tt
-steps_unfold b (i ∷ is) [] =
-    unfolds_more b i is None [] (steps_from (b + 1) is []) (steps_unfold (b + 1) is [])
-steps_unfold b (i ∷ is) (h ∷ hs) =
-    cond_both (h.0 == b)
-    (option_map (λ xs. step_of (Some h.1) i ∷ xs) (steps_from (b + 1) is hs))
-    (option_map (λ xs. step_of None i ∷ xs) (steps_from (b + 1) is (h ∷ hs)))
-    (λ (o : Option (List HintedInstr)). Unfolds b (i ∷ is) (h ∷ hs) o)
-    (λ t.
-    (subst (λ (n : ℕ). Unfolds b (i ∷ is) ((n, h.1) ∷ hs)
-    (option_map (λ xs. step_of (Some h.1) i ∷ xs) (steps_from (b + 1) is hs)))
-    (sym (eqb-true h.0 b t))
-    (unfolds_more b i is (Some h.1) hs (steps_from (b + 1) is hs)
-    (steps_unfold (b + 1) is hs))))
-    (λ t.
-    (unfolds_more b i is None (h ∷ hs) (steps_from (b + 1) is (h ∷ hs))
-    (steps_unfold (b + 1) is (h ∷ hs))))
+steps_unfold b (i ∷ is) hs =
+    let h = hint_for b hs in
+    let ks = hints_after b hs in
+    let e : Expr = record { instrs = is; hints = ks } in
+    subst (Unfolds b (record { instrs = i ∷ is; hints = hs })) (sym (next_step b i is hs))
+    (subst (λ (l : List (ℕ × ℕ)). Unfolds b (record { instrs = i ∷ is; hints = l })
+    (option_map (λ xs. step_of h i ∷ xs) (steps_from (b + 1) is ks))) (marked_first b hs)
+    (unfolds_more b h i e (steps_from (b + 1) is ks) (steps_unfold (b + 1) is ks)))
 
-steps_closed : (e : Expr) (o : Option (List HintedInstr)) (r : List Tok)
-    → Unfolds 0 e.instrs e.hints o → passes (each printable_step) o ≡ true → EndsExpression r
+steps_closed : (e : Expr) (o : Option (List HintedInstr)) (r : List Tok) → Unfolds 0 e o
+    → passes (each printable_step) o ≡ true → EndsExpression r
     → expression.spells e (spell_option (flat_map spell_step) o) r
 unfolding expression
-steps_closed e None r b f k = absurd cc
-steps_closed e (Some xs) r b f k = (
-  items_of xs,
-  steps_listed xs r f k,
-  k.0,
-  ap (λ (l : List Instr). record { instrs = l; hints = e.hints }) b.0
-      ∙ ap (λ (l : List (ℕ × ℕ)). record { instrs = unfolded (items_of xs); hints = l }) b.1,
-)
+steps_closed e None r u f k = absurd cc
+steps_closed e (Some xs) r u f k = (items_of xs, steps_listed xs r f k, k.0, u)
 
 -- at the end of its group
 pub expression_closed : (e : Expr) (r : List Tok) → printable_expression e ≡ true → EndsExpression r
@@ -360,26 +318,14 @@ expression_closed e r f k =
 
 -- ---- printable expressions are well-formed
 
-low_at : (x : List ℕ) → all_are (λ b. nat_lt b 128) x ≡ true → (i : ℕ) → slice_index x i < 128
-low_at [] h i = search (rules)
-low_at (b ∷ x) h zero =
-    ltb-true b 128 (and_parts (nat_lt b 128) (all_are (λ b. nat_lt b 128) x) h).0
-low_at (b ∷ x) h (suc i) =
-    low_at x (and_parts (nat_lt b 128) (all_are (λ b. nat_lt b 128) x) h).1 i
-
-hint_name_printable : is_name (codes "metadata.code.branch_hint") ≡ true
-hint_name_printable =
-    is_utf8-from_IsUtf8 (codes "metadata.code.branch_hint")
-    (IsUtf8-from_ascii (codes "metadata.code.branch_hint")
-    (λ i. (low_at (codes "metadata.code.branch_hint") refl i)))
-
 byte_well_formed : (v : ℕ) → v < 2 → is_printable (String (v ∷ [])) ≡ true
 byte_well_formed v lt = let e : is_byte v ≡ true = grind (arith, nat_tests) in rw e refl
 
 hint_well_formed : (i : Instr) (v : ℕ) → printable_hint i v ≡ true → WellFormed (spell_hint v)
 hint_well_formed i v f =
     let b = and_parts (is_branch i) (nat_lt v 2) f in
-    noted (codes "metadata.code.branch_hint") (String (v ∷ []) ∷ []) [] hint_name_printable refl
+    noted (codes "metadata.code.branch_hint") (String (v ∷ []) ∷ []) []
+    (ascii_name (codes "metadata.code.branch_hint") refl) refl
     (well_formed_one (String (v ∷ [])) (byte_well_formed v (ltb-true v 2 b.1))) nothing
 
 step_well_formed : (h : Option ℕ) (i : Instr)
@@ -391,29 +337,9 @@ step_well_formed (Some v) i f =
     well_formed_both (spell_hint v) (spell_instruction i) (hint_well_formed i v a.0)
     (instruction_well_formed i a.1)
 
-steps_well_formed : (o : Option (List HintedInstr)) → passes (each printable_step) o ≡ true
-    → WellFormed (spell_option (flat_map spell_step) o)
-steps_well_formed (Some xs) f =
-    well_formed_each spell_step printable_step (λ x h. (step_well_formed x.hint x.instr h)) xs f
-steps_well_formed None f = absurd cc
-
 pub expression_well_formed : (e : Expr) → printable_expression e ≡ true
     → WellFormed (spell_expression e)
-expression_well_formed e f = steps_well_formed (steps_from 0 e.instrs e.hints) f
-
--- ---- one step more
-
-step_by : (t : Bool) (b : ℕ) (i : Instr) (is : List Instr) (h : ℕ × ℕ) (hs : List (ℕ × ℕ))
-    → (if t then option_map (λ xs. step_of (Some h.1) i ∷ xs) (steps_from (b + 1) is hs)
-    else option_map (λ xs. step_of None i ∷ xs) (steps_from (b + 1) is (h ∷ hs)))
-    ≡ option_map (λ xs. step_of (if t then Some h.1 else None) i ∷ xs)
-    (steps_from (b + 1) is (if t then hs else h ∷ hs))
-step_by true b i is h hs = refl
-step_by false b i is h hs = refl
-
--- the first step has the first hint, if the index of the hint is b
-pub next_step : (b : ℕ) (i : Instr) (is : List Instr) (hs : List (ℕ × ℕ))
-    → steps_from b (i ∷ is) hs
-    ≡ option_map (λ xs. step_of (hint_for b hs) i ∷ xs) (steps_from (b + 1) is (hints_after b hs))
-next_step b i is [] = refl
-next_step b i is (h ∷ hs) = step_by (h.0 == b) b i is h hs
+expression_well_formed e f =
+    steps_have WellFormed
+    (well_formed_each spell_step printable_step (λ x h. (step_well_formed x.hint x.instr h)))
+    (steps_from 0 e.instrs e.hints) f

@@ -1,17 +1,12 @@
 -- Laws: round trips of folded instructions. Printable folded instructions are well-formed.
-use Rattle.std.specs.Prelude.{◌≡◌, ℕ, zero, suc, ◌<◌, Bool, true, false, not, ◌&&◌, List, [], ◌∷◌}
-use Rattle.std.specs.Prelude.{◌++◌, length, Option, Some, None, codes, option_map, is_some}
-use Rattle.std.specs.Str.{bytes_eq}
-use Rattle.std.proofs.Common.{refl, ap, subst, sym, ◌∙◌, append_assoc, append-nil, get_or, arith}
-use Rattle.std.proofs.lemmas.Bool.{and_parts, cond_both, not-true}
+use Rattle.std.specs.Prelude.{◌≡◌, ℕ, Bool, true, false, not, ◌&&◌, List, [], ◌∷◌, ◌++◌, Option}
+use Rattle.std.specs.Prelude.{Some, None, codes, option_map, is_some}
+use Rattle.std.proofs.Common.{refl, ap, subst, sym, ◌∙◌, append_assoc, append-nil, rules}
+use Rattle.std.proofs.lemmas.Bool.{and_parts, cond_both, not-true, or_from}
 use Rattle.wat_lexer.specs.Token.{Tok, LParen, RParen, Keyword}
 use Rattle.wat_tokens.specs.Spelled.{in_parens}
 use Rattle.wat_operands.specs.Catches.{begins_catch}
 use Rattle.wat_mnemonics.specs.Ops.{op_word}
-use Rattle.wat_mnemonics.specs.Laws.Places.{there, place_below, table_length}
-use Rattle.wat_mnemonics.specs.Order.{first}
-use Rattle.wat_mnemonics.specs.Places.{place}
-use Rattle.wat_mnemonics.specs.Table.{all_ops}
 use Rattle.wat_mnemonics.specs.declared.op.Op.{Op}
 use Rattle.wat_instr.specs.Instruction.{Instr}
 use Rattle.wat_expr.specs.Expression.{Expr}
@@ -19,14 +14,15 @@ use Rattle.wat_expr.specs.Folded.{Groups, NoGroup, Group, groups, unfolded_group
 use Rattle.wat_expr.specs.FoldedProduction.{folded_instruction}
 use Rattle.wat_print.specs.WellFormed.{WellFormed, nothing}
 use Rattle.wat_print.specs.Parts.{each, spell_option}
-use Rattle.wat_print.specs.Laws.Parts.{well_formed_both, well_formed_paren, each_both, each_front}
+use Rattle.wat_print.specs.Laws.Parts.{well_formed_both, well_formed_paren, each_front}
 use Rattle.wat_print_instr.specs.FoldedForm.{takes_catches, is_catch, op_of, keeps_apart}
 use Rattle.wat_print_instr.specs.FoldedForm.{own_groups, first_apart, catch_first, groups_behind}
 use Rattle.wat_print_instr.specs.FoldedForm.{group_from, spell_groups, spell_folded, no_hints}
 use Rattle.wat_print_instr.specs.FoldedForm.{printable_folded}
 use Rattle.wat_print_instr.specs.InstructionForm.{spell_instruction, printable_instruction}
-use Rattle.wat_print_instr.specs.Laws.Expression.{EndsExpression, end_ends, word_unsought}
-use Rattle.wat_print_instr.specs.Laws.Instruction.{EndsOperand, instruction_here}
+use Rattle.wat_print_instr.specs.Laws.Expression.{EndsExpression, end_ends, no_type, no_param}
+use Rattle.wat_print_instr.specs.Laws.Expression.{no_result, no_mnemonic}
+use Rattle.wat_print_instr.specs.Laws.Instruction.{EndsOperand, instruction_here, every_op}
 use Rattle.wat_print_instr.specs.Laws.Instruction.{instruction_well_formed}
 
 -- ---- the first tokens of a group
@@ -40,34 +36,12 @@ same_by true b e = e
 same_by false true e = absurd cc
 same_by false false e = refl
 
--- a group of the word begins a catch clause exactly if `is_catch` holds, and never a handler
-abbrev group_told : Op → Bool
-group_told h =
-    same_test (is_catch h) (begins_catch (LParen ∷ Keyword (op_word h) ∷ []))
-    && not (bytes_eq (op_word h) (codes "on"))
-
-groups_told : each group_told all_ops ≡ true
-groups_told = refl
-
-told_at : (xs : List Op) (k : ℕ) → each group_told xs ≡ true → k < length xs
-    → group_told (get_or xs k first) ≡ true
-told_at [] k e l = absurd (omega (arith, l))
-told_at (x ∷ xs) zero e l = (and_parts (group_told x) (each group_told xs) e).0
-told_at (x ∷ xs) (suc k) e l =
-    told_at xs k (and_parts (group_told x) (each group_told xs) e).1 (omega (arith, l))
-
-told : (h : Op) → group_told h ≡ true
-told h =
-    subst (λ (x : Op). group_told x ≡ true) (there h)
-    (told_at all_ops (place h) groups_told
-    (let l = table_length in let b = place_below h in omega arith))
-
+-- a group of the word begins a catch clause exactly if `is_catch` holds
 pub catch_told : (h : Op) (y : List Tok)
     → begins_catch (LParen ∷ Keyword (op_word h) ∷ y) ≡ is_catch h
-catch_told h y = same_by (is_catch h) _ (and_parts _ _ (told h)).0
-
-no_on : (h : Op) → bytes_eq (op_word h) (codes "on") ≡ false
-no_on h = not-true _ (and_parts _ _ (told h)).1
+catch_told h y =
+    same_by (is_catch h) _ (every_op
+    (λ x. same_test (is_catch x) (begins_catch (LParen ∷ Keyword (op_word x) ∷ []))) refl h)
 
 -- The group of an instruction isn't read as a part of an operand, with one exception: the group of
 -- a `catch` or `catch_all` after a `try_table`.
@@ -75,20 +49,16 @@ group_ends : {w : Op} (h : Op) (y : List Tok)
     → (takes_catches w ≡ true → is_catch h ≡ false)
     → EndsOperand w (LParen ∷ Keyword (op_word h) ∷ y)
 group_ends h y k =
-    let p = word_unsought h in record {
-      no_index = refl;
-      no_lane = refl;
-      no_ordering = refl;
-      no_result = p.no_result;
-      no_catch = λ t. (catch_told h y ∙ k t);
-      no_handler = no_on h;
-      access = (refl, refl, refl, p.no_type);
-      block = (
-        (p.no_type, rw (p.no_param, p.no_result) refl, rw (p.no_param, p.no_result) refl),
-        refl,
-        refl,
-      );
-    }
+    search (
+      rules,
+      or_from,
+      no_type h,
+      no_param h,
+      no_result h,
+      no_mnemonic (codes "on") refl h,
+      catch_told h y,
+      k,
+    )
 
 -- ---- round trips of groups
 
@@ -106,10 +76,10 @@ groups_end : {w : Op} (gs : Groups) (d : List Tok) → FirstFree w gs
 groups_end NoGroup d k e = end_ends (RParen ∷ d) e
 groups_end (Group i gs hs) d k e = group_ends (op_of i) _ k
 
-group_closed : (hs : Groups) (r : List Tok)
-    → EndsExpression (RParen ∷ (spell_groups hs ++ RParen ∷ r))
-group_closed NoGroup r = (refl, (refl, refl, refl))
-group_closed (Group i gs hs) r = (refl, (refl, refl, refl))
+group_closed : (hs : Groups) (r : List Tok) → EndsExpression (RParen ∷ r)
+    → EndsExpression (RParen ∷ (spell_groups hs ++ r))
+group_closed NoGroup r k = k
+group_closed (Group i gs hs) r k = (refl, (refl, refl, refl))
 
 group_text : (s g h t : List Tok)
     → (in_parens (s ++ g) ++ h) ++ t ≡ LParen ∷ (s ++ (g ++ (RParen ∷ (h ++ t))))
@@ -123,12 +93,13 @@ own_printable gs i f =
     let u = each_front printable_instruction (unfolded_groups gs) (i ∷ []) f in
     (u.0, (and_parts (printable_instruction i) true u.1).0)
 
+-- if none of the words `type`, `param` and `result` follows a `)`
 groups_listed : (gs : Groups) (r : List Tok)
     → each printable_instruction (unfolded_groups gs) ≡ true
-    → Readable gs → groups gs (spell_groups gs ++ RParen ∷ r) (RParen ∷ r)
-groups_listed NoGroup r f k = refl
-groups_listed (Group i gs hs) r f k =
-    let d = spell_groups hs ++ RParen ∷ r in
+    → Readable gs → EndsExpression (RParen ∷ r) → groups gs (spell_groups gs ++ r) r
+groups_listed NoGroup r f k e = refl
+groups_listed (Group i gs hs) r f k e =
+    let d = spell_groups hs ++ r in
     let b = spell_groups gs ++ RParen ∷ d in
     let u =
     each_front printable_instruction (unfolded_groups gs ++ i ∷ []) (unfolded_groups hs) f in
@@ -136,14 +107,14 @@ groups_listed (Group i gs hs) r f k =
       spell_instruction i ++ b,
       b,
       d,
-      group_text (spell_instruction i) (spell_groups gs) (spell_groups hs) (RParen ∷ r),
+      group_text (spell_instruction i) (spell_groups gs) (spell_groups hs) r,
       (
         spell_instruction i,
         refl,
-        instruction_here i b v.1 (groups_end gs d k.0 (group_closed hs r)),
+        instruction_here i b v.1 (groups_end gs d k.0 (group_closed hs r e)),
       ),
-      groups_listed gs d v.0 k.1,
-      groups_listed hs r u.1 k.2,
+      groups_listed gs (RParen ∷ d) v.0 k.1 (refl, (refl, refl, refl)),
+      groups_listed hs r u.1 k.2 e,
     )
 
 groups_well_formed : (gs : Groups) → each printable_instruction (unfolded_groups gs) ≡ true
@@ -207,14 +178,10 @@ apart_chosen w before (i ∷ is) =
     (λ e. (subst (λ (l : List Instr). Chosen w l (first_apart (before ++ i ∷ []) is))
     (append_assoc before (i ∷ []) is) (apart_chosen w (before ++ i ∷ []) is)))
 
-not_both : (a b : Bool) → a && b ≡ false → a ≡ true → b ≡ false
-not_both true b e t = e
-not_both false b e t = absurd cc
-
 own_free : (h : Instr) (is : List Instr) → catch_first h is ≡ false
     → FirstFree (op_of h) (own_groups is)
 own_free h [] e = tt
-own_free h (i ∷ is) e = not_both (takes_catches (op_of h)) (is_catch (op_of i)) e
+own_free h (i ∷ is) e = λ t. rw t at e
 
 behind_chosen : (h : Instr) (is : List Instr) → Chosen (op_of h) is (groups_behind h is)
 behind_chosen h is =
@@ -226,13 +193,16 @@ behind_chosen h is =
 abbrev Whole : List Instr → Option Groups → Type 0
 Whole is None = Unit {0}
 Whole is (Some (Group i gs NoGroup)) =
-    (unfolded_groups gs ++ i ∷ [] ≡ is) × FirstFree (op_of i) gs × Readable gs
+    (unfolded_groups (Group i gs NoGroup) ≡ is) × Readable (Group i gs NoGroup)
 Whole is _ = ⊥
 
 whole_of : (i : Instr) (is : List Instr) (o : Option Groups) → Chosen (op_of i) is o
     → Whole (is ++ i ∷ []) (option_map (λ gs. Group i gs NoGroup) o)
 whole_of i is None c = tt
-whole_of i is (Some gs) c = (ap (λ (l : List Instr). l ++ i ∷ []) c.0, c.1, c.2)
+whole_of i is (Some gs) c = (
+  append-nil (unfolded_groups gs ++ i ∷ []) ∙ ap (λ (l : List Instr). l ++ i ∷ []) c.0,
+  (c.1, c.2, tt),
+)
 
 from_whole : (before is : List Instr) → Whole (before ++ is) (group_from before is)
 from_whole before [] = tt
@@ -265,24 +235,14 @@ whole_spells : (e : Expr) (o : Option Groups) (r : List Tok) → Whole e.instrs 
 whole_spells e None r w n f s k = absurd cc
 whole_spells e (Some NoGroup) r w n f s k = absurd w
 whole_spells e (Some (Group i gs NoGroup)) r w n f s k =
-    let b = spell_groups gs ++ RParen ∷ r in
-    let v = own_printable gs i
-    (subst (λ (l : List Instr). each printable_instruction l ≡ true) (sym w.0) f) in (
+    let l = groups_listed (Group i gs NoGroup) r
+    (subst (λ (is : List Instr). each printable_instruction is ≡ true) (sym w.0) f) w.1 k in (
       i,
       gs,
-      (
-        spell_instruction i ++ b,
-        b,
-        group_text (spell_instruction i) (spell_groups gs) [] r,
-        (
-          spell_instruction i,
-          refl,
-          instruction_here i b v.1 (groups_end gs r w.1 k),
-        ),
-        groups_listed gs r v.0 w.2,
-      ),
-      ap (λ (l : List Instr). record { instrs = l; hints = e.hints }) (sym w.0)
-          ∙ ap (λ (l : List (ℕ × ℕ)). record { instrs = unfolded_groups gs ++ i ∷ []; hints = l })
+      (l.0, l.1, l.3, l.4, subst (λ (d : List Tok). groups gs l.1 (RParen ∷ d)) l.6 l.5),
+      ap (λ (is : List Instr). record { instrs = is; hints = e.hints })
+          (sym w.0 ∙ append-nil (unfolded_groups gs ++ i ∷ []))
+          ∙ ap (λ (hs : List (ℕ × ℕ)). record { instrs = unfolded_groups gs ++ i ∷ []; hints = hs })
           n,
     )
 whole_spells e (Some (Group i gs (Group j ks hs))) r w n f s k = absurd w
@@ -316,8 +276,7 @@ whole_well_formed is None w f = nothing
 whole_well_formed is (Some NoGroup) w f = absurd w
 whole_well_formed is (Some (Group i gs NoGroup)) w f =
     groups_well_formed (Group i gs NoGroup)
-    (each_both printable_instruction (unfolded_groups gs ++ i ∷ []) []
-    (subst (λ (l : List Instr). each printable_instruction l ≡ true) (sym w.0) f) refl)
+    (subst (λ (l : List Instr). each printable_instruction l ≡ true) (sym w.0) f)
 whole_well_formed is (Some (Group i gs (Group j ks hs))) w f = absurd w
 
 pub folded_well_formed : (e : Expr) → printable_folded e ≡ true → WellFormed (spell_folded e)

@@ -1,9 +1,11 @@
 -- Laws: each folded instruction that the tokens of a text spell can be written.
-use Rattle.std.specs.Prelude.{◌≡◌, Bool, true, false, ◌||◌, List, []}
-use Rattle.std.specs.Prelude.{◌∷◌, ◌++◌, Option, Some, None, option_map, is_some}
+use Rattle.std.specs.List.{list_any}
+use Rattle.std.specs.Prelude.{◌≡◌, Bool, true, false, ◌||◌, List, [], ◌∷◌, ◌++◌, Option, Some, None}
+use Rattle.std.specs.Prelude.{option_map, is_some}
 use Rattle.std.proofs.Common.{refl, ap, subst, sym, ◌∙◌}
 use Rattle.std.proofs.lemmas.Bool.{and_parts, cond_both, or_left, or_right}
 use Rattle.std.proofs.lemmas.List.{append_cancel_right}
+use Rattle.std.proofs.lemmas.List.Folds.{list_any-append}
 use Rattle.wat_lexer.specs.Token.{Tok, LParen, RParen, Keyword}
 use Rattle.wat_tokens.specs.ManySpells.{many_spells}
 use Rattle.wat_tokens.specs.Production.{Production}
@@ -100,30 +102,21 @@ first_is_catch [] = false
 first_is_catch (i ∷ is) = is_catch (op_of i)
 
 abbrev any_apart : List Instr → Bool
-any_apart [] = false
-any_apart (i ∷ is) = keeps_apart i || any_apart is
+any_apart is = list_any keeps_apart is
 
 any_left : (xs ys : List Instr) → any_apart xs ≡ true → any_apart (xs ++ ys) ≡ true
-any_left [] ys e = absurd cc
-any_left (x ∷ xs) ys e =
-    by_test (keeps_apart x) (λ t. or_left (keeps_apart x) (any_apart (xs ++ ys)) t)
-    (λ t. or_right (keeps_apart x) (any_apart (xs ++ ys))
-    (any_left xs ys (subst (λ (b : Bool). b || any_apart xs ≡ true) t e)))
+any_left xs ys e = list_any-append keeps_apart xs ys ∙ or_left (any_apart xs) (any_apart ys) e
 
 any_last : (xs : List Instr) (i : Instr) → keeps_apart i ≡ true
     → any_apart (xs ++ i ∷ []) ≡ true
-any_last [] i e = or_left (keeps_apart i) false e
-any_last (x ∷ xs) i e = or_right (keeps_apart x) (any_apart (xs ++ i ∷ [])) (any_last xs i e)
+any_last xs i e =
+    list_any-append keeps_apart xs (i ∷ []) ∙ or_right (any_apart xs) _ (or_left _ false e)
 
 -- the first instruction is in the group
 first_in : (xs : List Instr) (i : Instr) (ys : List Instr) → is_catch (op_of i) ≡ false
     → first_is_catch ((xs ++ i ∷ []) ++ ys) ≡ true → first_is_catch xs ≡ true
 first_in [] i ys n e = absurd cc
 first_in (x ∷ xs) i ys n e = e
-
-keeps_by : (i : Instr) → takes_catches (op_of i) ≡ false → is_catch (op_of i) ≡ false
-    → keeps_apart i ≡ true
-keeps_by i e f = rw (e, f) refl
 
 apart_in : (gs : Groups) (ts r : List Tok) → groups gs ts r → begins_catch ts ≡ false
     → first_is_catch (unfolded_groups gs) ≡ true → any_apart (unfolded_groups gs) ≡ true
@@ -136,7 +129,7 @@ apart_in (Group i gs hs) ts r (a, b, d, q, h, ly, lx) n e =
     (λ t. any_left (unfolded_groups gs) (i ∷ [])
     (apart_in gs b (RParen ∷ d) ly (behind_try i a b h t)
     (first_in (unfolded_groups gs) i (unfolded_groups hs) own e)))
-    (λ t. any_last (unfolded_groups gs) i (keeps_by i t own)))
+    (λ t. any_last (unfolded_groups gs) i (rw (t, own) refl)))
 
 some_apart : (before is : List Instr) → any_apart is ≡ true
     → is_some (first_apart before is) ≡ true

@@ -1,9 +1,9 @@
 -- Laws: round trips of instructions.
-use Rattle.std.specs.Prelude.{◌≡◌, ℕ, suc, zero, ◌<◌, Bool, true, false, ◌&&◌, ◌==◌, List, []}
+use Rattle.std.specs.Prelude.{◌≡◌, ℕ, suc, zero, ◌<◌, Bool, true, false, not, ◌&&◌, ◌==◌, List, []}
 use Rattle.std.specs.Prelude.{◌∷◌, ◌++◌, codes, Option, Some, None, length}
 use Rattle.std.specs.Str.{bytes_eq}
 use Rattle.std.proofs.Common.{rules, refl, ap, subst, sym, ◌∙◌, get_or, arith}
-use Rattle.std.proofs.lemmas.Bool.{and_parts, eqb-true}
+use Rattle.std.proofs.lemmas.Bool.{and_parts, eqb-true, not_from_false, and_from}
 use Rattle.wat_lexer.specs.Token.{Tok, LParen, Keyword, Annotation}
 use Rattle.wat_tokens.specs.Followed.{blank}
 use Rattle.wat_tokens.specs.Index.{begins_index}
@@ -35,10 +35,11 @@ use Rattle.wat_print.specs.Parts.{each, spell_option}
 use Rattle.wat_print.specs.Prints.{Prints, Nests, Passes}
 use Rattle.wat_print.specs.WellFormed.{WellFormed, is_given, is_keyword}
 use Rattle.wat_print.specs.WellFormed as well_formed
-use Rattle.wat_print.specs.Laws.Form.{prints_only}
+use Rattle.wat_print.specs.Laws.Form.{not_true, prints_only}
 use Rattle.wat_print.specs.Laws.Only.{OnlyPrintable, given_parts}
 use Rattle.wat_print.specs.Laws.Parts.{well_formed_word}
 use Rattle.wat_print.specs.Laws.Reference.{index_prints, heap_prints, ref_prints}
+use Rattle.wat_print.specs.Laws.Written.{put_both}
 use Rattle.wat_print_instr.specs.FoldedForm.{takes_catches}
 use Rattle.wat_print_instr.specs.InstructionForm.{found_nothing, found_block, found_label}
 use Rattle.wat_print_instr.specs.InstructionForm.{found_one_index, found_two_indices}
@@ -51,9 +52,8 @@ use Rattle.wat_print_instr.specs.InstructionForm.{found_float, found_fence, foun
 use Rattle.wat_print_instr.specs.InstructionForm.{found_shuffled, found_caught, found_resumed}
 use Rattle.wat_print_instr.specs.InstructionForm.{found_thrown, passes, found_form, operand_form}
 use Rattle.wat_print_instr.specs.InstructionForm.{spell_instruction, printable_instruction}
-use Rattle.wat_print_instr.specs.Laws.Access.{access_prints, fence_prints}
-use Rattle.wat_print_instr.specs.Laws.Access.{ordered_prints, atomic_prints, lane_prints}
-use Rattle.wat_print_instr.specs.Laws.Access.{lane_access_prints}
+use Rattle.wat_print_instr.specs.Laws.Access.{access_prints, fence_prints, ordered_prints}
+use Rattle.wat_print_instr.specs.Laws.Access.{atomic_prints, lane_prints, lane_access_prints}
 use Rattle.wat_print_instr.specs.Laws.Control.{EndsBlock, block_prints, call_prints}
 use Rattle.wat_print_instr.specs.Laws.Control.{end_label_prints, select_prints, branch_prints}
 use Rattle.wat_print_instr.specs.Laws.Control.{try_prints, resume_prints, throw_prints}
@@ -160,30 +160,12 @@ pub record EndsOperand (h : Op) (r : List Tok) : Type 0 where
   pub block : EndsBlock r
 
 pub ends_nothing : {h : Op} → EndsOperand h []
-ends_nothing = record {
-  no_index = refl;
-  no_lane = refl;
-  no_ordering = refl;
-  no_result = refl;
-  no_catch = λ t. refl;
-  no_handler = refl;
-  access = (refl, refl, refl, refl);
-  block = ((refl, refl, refl), refl, refl);
-}
+ends_nothing = search rules
 
 -- a group that begins with an annotation other than `@name`
 pub ends_annotation : {h : Op} (n : List ℕ) (x : List Tok)
     → bytes_eq n (codes "name") ≡ false → EndsOperand h (LParen ∷ Annotation n ∷ x)
-ends_annotation n x e = record {
-  no_index = refl;
-  no_lane = refl;
-  no_ordering = refl;
-  no_result = refl;
-  no_catch = λ t. refl;
-  no_handler = refl;
-  access = (refl, refl, refl, refl);
-  block = ((refl, refl, refl), refl, e);
-}
+ends_annotation n x e = search rules
 
 -- an operand that is made of a value
 module _ {A : Type 0} {form : Form A} {g : Production A} {make : A → Operand}
@@ -321,56 +303,33 @@ operand_nests h o f =
 
 -- the operand of h is read before a rest that may follow it
 operand_ends : (h : Op) (r : List Tok) → EndsOperand h r → (operand_form h).follows r ≡ true
-operand_ends (ops.Block op) r e =
-    rw (e.block.1, e.block.2, e.block.0.0, e.block.0.1, e.block.0.2) refl
-operand_ends (ops.Label op) r e = rw (e.block.1) refl
-operand_ends (ops.CallIndirect op) r e =
-    rw (e.no_index, e.block.0.0, e.block.0.1, e.block.0.2) refl
-operand_ends (ops.Table op) r e = rw (e.no_index) refl
-operand_ends (ops.Access op) r e =
-    rw (e.no_index, e.access.0, e.access.1, e.access.2, e.access.3) refl
-operand_ends (ops.Memory op) r e = rw (e.no_index) refl
-operand_ends (ops.AtomicAccess op) r e =
-    rw (e.no_index, e.no_ordering, e.access.0, e.access.1, e.access.2, e.access.3) refl
-operand_ends (ops.RmwAccess op) r e =
-    rw (e.no_index, e.no_ordering, e.access.0, e.access.1, e.access.2, e.access.3) refl
-operand_ends (ops.OrderedTable op) r e = rw (e.no_index) refl
-operand_ends (ops.LaneAccess op) r e =
-    rw (e.no_lane, e.access.2) refl
-operand_ends ops.br_table r e = rw (e.no_index) refl
-operand_ends ops.select r e = rw (e.no_result) refl
-operand_ends ops.memory_init r e = rw (e.no_index) refl
-operand_ends ops.memory_copy r e = rw (e.no_index) refl
-operand_ends ops.table_init r e = rw (e.no_index) refl
-operand_ends ops.table_copy r e = rw (e.no_index) refl
-operand_ends ops.atomic_fence r e = rw (e.no_ordering) refl
-operand_ends ops.try_table r e =
-    rw (e.no_catch refl, e.block.1, e.block.2, e.block.0.0, e.block.0.1, e.block.0.2) refl
-operand_ends ops.resume r e = rw (e.no_handler) refl
-operand_ends ops.resume_throw r e = rw (e.no_handler) refl
-operand_ends ops.resume_throw_ref r e = rw (e.no_handler) refl
-operand_ends _ r e = refl
+operand_ends (ops.Block op) r e = search (rules, not_from_false, and_from)
+operand_ends ops.try_table r e = search (rules, not_from_false, and_from, e.no_catch)
+operand_ends _ r e = search (rules, not_from_false, and_from)
 
 -- ---- words
 
-words_printable : each (λ h. is_keyword (op_word h)) all_ops ≡ true
-words_printable = refl
+test_at : (test : Op → Bool) (xs : List Op) (k : ℕ) → each test xs ≡ true → k < length xs
+    → test (get_or xs k first) ≡ true
+test_at test [] k e l = absurd (omega (arith, l))
+test_at test (x ∷ xs) zero e l = (and_parts (test x) (each test xs) e).0
+test_at test (x ∷ xs) (suc k) e l =
+    test_at test xs k (and_parts (test x) (each test xs) e).1 (omega (arith, l))
 
-printable_at : (xs : List Op) (k : ℕ) → each (λ h. is_keyword (op_word h)) xs ≡ true
-    → k < length xs → is_keyword (op_word (get_or xs k first)) ≡ true
-printable_at [] k e l = absurd (omega (arith, l))
-printable_at (x ∷ xs) zero e l =
-    (and_parts (is_keyword (op_word x)) (each (λ h. is_keyword (op_word h)) xs) e).0
-printable_at (x ∷ xs) (suc k) e l =
-    let a = and_parts (is_keyword (op_word x))
-    (each (λ h. is_keyword (op_word h)) xs) e in
-    printable_at xs k a.1 (omega (arith, l))
+-- each instruction passes the test, since each instruction of the table does
+pub every_op : (test : Op → Bool) → each test all_ops ≡ true → (h : Op) → test h ≡ true
+every_op test e h =
+    subst (λ (x : Op). test x ≡ true) (there h)
+    (test_at test all_ops (place h) e
+    (let l = table_length in let b = place_below h in omega arith))
+
+-- no mnemonic passes the test
+pub no_word : (test : List ℕ → Bool) → each (λ h. not (test (op_word h))) all_ops ≡ true
+    → (h : Op) → test (op_word h) ≡ false
+no_word test e h = not_true (test (op_word h)) (every_op (λ x. not (test (op_word x))) e h)
 
 pub word_printable : (h : Op) → is_keyword (op_word h) ≡ true
-word_printable h =
-    let e = printable_at all_ops (place h) words_printable
-    (let l = table_length in let b = place_below h in omega arith) in
-    subst (λ (x : Op). is_keyword (op_word x) ≡ true) (there h) e
+word_printable h = every_op (λ x. is_keyword (op_word x)) refl h
 
 -- ---- instructions
 
@@ -385,6 +344,9 @@ pub printable_of : (h : Op) (o : Operand)
 printable_of h o =
     ap (λ (x : Op). (op_row x == op_row h) && (operand_form x).printable o) (there h)
     ∙ ap (λ (b : Bool). b && (operand_form h).printable o) (same_number (op_row h))
+
+-- a word and an operand, one after the other
+pub ruleset instruction_put = (put_both, spell_of, printable_of, there, same_number)
 
 spells_of : (h : Op) (o : Operand) (r : List Tok) → (operand_form h).printable o ≡ true
     → EndsOperand h r

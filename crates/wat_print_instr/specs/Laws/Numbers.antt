@@ -1,7 +1,7 @@
 -- Laws: round trips of signed and unsigned numbers, and of words that end in a number.
 use Rattle.std.specs.Prelude.{List, ◌≡◌, ℕ, ℤ, zero, suc, pos, negsuc, ◌^◌, ◌-◌, ◌<◌, ◌≤◌, ◌==◌}
-use Rattle.std.specs.Prelude.{◌-ℤ◌, neg_ℤ, true, nat_lt, nat_le}
-use Rattle.std.specs.Prelude.{Option, Some, None, option_map, decimal}
+use Rattle.std.specs.Prelude.{◌-ℤ◌, neg_ℤ, true, nat_lt, nat_le, Option, Some, None, option_map}
+use Rattle.std.specs.Prelude.{decimal}
 use Rattle.std.specs.Fmt.{signed_decimal}
 use Rattle.std.proofs.Common.{refl, lit≤, arith, subst, sym}
 use Rattle.std.proofs.lemmas.Bool.{cond_both, leb-true, lt-ltb, ltb-false, ltb-true}
@@ -9,11 +9,11 @@ use Rattle.std.proofs.lemmas.Bool.Decides.{nat_tests}
 use Rattle.std.proofs.lemmas.Fmt.{decimal_is_IsNumeral}
 use Rattle.std.proofs.lemmas.Int.{ints}
 use Rattle.wat_lexer.specs.Number.{signed_value, signed_by, sign_of, magnitude, without_sign, up_to}
-use Rattle.wat_lexer.specs.Bytes.{is_idchar}
 use Rattle.wat_lexer.specs.Number.{twos_complement, unsigned_value}
+use Rattle.wat_lexer.specs.Bytes.{is_idchar}
 use Rattle.wat_lexer.specs.Token.{Tok, LParen, Integer}
 use Rattle.wat_lexer.specs.declared.number.Sign.{Sign}
-use Rattle.wat_lexer.specs.declared.number.Sign.TheVariants.{Plus, Minus}
+use Rattle.wat_lexer.specs.declared.number.Sign.TheVariants.{Minus}
 use Rattle.wat_tokens.specs.Integers.{signed, signed_of, unsigned, unsigned_of}
 use Rattle.wat_print.specs.Text.{all_are}
 use Rattle.wat_print.specs.Limits.{OfIntegers}
@@ -75,11 +75,11 @@ negative_is : (bits n : ℕ) → Halves bits → nat_le n (2 ^ (bits - 1)) ≡ t
 negative_is bits zero k h = lt-ltb 0 (2 ^ (bits - 1)) (omega (arith, k.some))
 negative_is bits (suc n) k h = grind (arith, nat_tests)
 
-some_signed : (bits n : ℕ) (z : ℤ) (o : Option ℕ) (f : ℕ → ℤ) (limit : ℕ)
+some_signed : (bits : ℕ) (z : ℤ) (o : Option ℕ) (f : ℕ → ℤ) (limit : ℕ)
     → ((m : ℕ) → nat_le m limit ≡ true → is_signed bits (f m) ≡ true)
     → option_map f (up_to limit o) ≡ Some z → is_signed bits z ≡ true
-some_signed bits n z None f limit h e = absurd cc
-some_signed bits n z (Some m) f limit h e =
+some_signed bits z None f limit h e = absurd cc
+some_signed bits z (Some m) f limit h e =
     cond_both (nat_le m limit) (Some m) None
     (λ (o : Option ℕ). option_map f o ≡ Some z → is_signed bits z ≡ true)
     (λ t k. (let same : f m ≡ z = cc in
@@ -88,14 +88,10 @@ some_signed bits n z (Some m) f limit h e =
 
 signed_given_by : (s : Option Sign) (bits : ℕ) (z : ℤ) (o : Option ℕ) → Halves bits
     → signed_by s bits o ≡ Some z → is_signed bits z ≡ true
-signed_given_by None bits z o k e =
-    some_signed bits 0 z o (twos_complement bits) (2 ^ bits - 1) (λ m h. (complement_is bits m k h))
-    e
-signed_given_by (Some Plus) bits z o k e =
-    some_signed bits 0 z o (twos_complement bits) (2 ^ bits - 1) (λ m h. (complement_is bits m k h))
-    e
 signed_given_by (Some Minus) bits z o k e =
-    some_signed bits 0 z o (λ n. neg_ℤ (pos n)) (2 ^ (bits - 1)) (λ m h. (negative_is bits m k h)) e
+    some_signed bits z o (λ n. neg_ℤ (pos n)) (2 ^ (bits - 1)) (λ m h. (negative_is bits m k h)) e
+signed_given_by _ bits z o k e =
+    some_signed bits z o (twos_complement bits) (2 ^ bits - 1) (λ m h. (complement_is bits m k h)) e
 
 signed_given : (bits : ℕ) → Halves bits → (t : Tok) (z : ℤ) → is_given t ≡ true
     → signed_of bits t ≡ Some z → is_signed bits z ≡ true
@@ -130,7 +126,7 @@ pub unsigned_printable : (bits n : ℕ) → 2 ^ bits ≤ 2 ^ 64 → is_unsigned 
 unsigned_printable bits n le h =
     let lt : n < 2 ^ bits = ltb-true n (2 ^ bits) h in decimal_printable n (omega arith)
 
-unsigned_text : (bits n : ℕ) → 2 ^ bits ≤ 2 ^ 64 → is_unsigned bits n ≡ true
+pub unsigned_text : (bits n : ℕ) → 2 ^ bits ≤ 2 ^ 64 → is_unsigned bits n ≡ true
     → unsigned_value bits (decimal n) ≡ Some n
 unsigned_text bits n le h =
     let lt : n < 2 ^ bits = ltb-true n (2 ^ bits) h in

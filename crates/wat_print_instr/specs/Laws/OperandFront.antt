@@ -1,7 +1,6 @@
 -- Laws: the tokens that are written for an operand begin with no word that the parser looks for
 -- after the word of an instruction.
 use Rattle.std.specs.Prelude.{◌≡◌, ℕ, ◌==◌, Bool, true, false, not, List, [], ◌∷◌, ◌++◌, codes}
-use Rattle.std.specs.Prelude.{decimal}
 use Rattle.std.specs.List.{list_any}
 use Rattle.std.specs.Str.{bytes_eq}
 use Rattle.std.proofs.Common.{rules, refl, subst, append-nil, inl, inr}
@@ -12,15 +11,12 @@ use Rattle.wat_tokens.specs.Tests.{begins_word}
 use Rattle.wat_types.specs.Heap.{abstract_word}
 use Rattle.wat_types.specs.declared.heap.AbstractHeapType.{AbstractHeapType}
 use Rattle.wat_types.specs.declared.heap.AbstractHeapType.TheVariants as words
-use Rattle.wat_mnemonics.specs.Access.{access_align, atomic_access_align, rmw_access_align}
-use Rattle.wat_mnemonics.specs.Access.{lane_access_align}
 use Rattle.wat_mnemonics.specs.declared.op.Op.{Op}
 use Rattle.wat_mnemonics.specs.declared.op.Op.TheVariants as ops
 use Rattle.wat_instr.specs.Operand.{Operand}
 use Rattle.wat_print.specs.Form.{Test, any}
-use Rattle.wat_print.specs.Reference.{short_word, ref_form}
+use Rattle.wat_print.specs.Reference.{short_word}
 use Rattle.wat_print.specs.Laws.Form.{not_true}
-use Rattle.wat_print_instr.specs.Access.{place_form, ordering_form}
 use Rattle.wat_print_instr.specs.InstructionForm.{operand_form}
 use Rattle.wat_print_instr.specs.Laws.Form.{passes_of}
 use Rattle.wat_print_instr.specs.Laws.Instruction.{operand_prints, operand_ready}
@@ -69,59 +65,9 @@ module _ (w : List ℕ) (a : NoOperandWord w) where
   word_clear : (v : List ℕ) → begins_operand v ≡ true → not (bytes_eq v w) ≡ true
   word_clear v e = rw (word_apart v e) refl
 
-  heap_clear : (t : AbstractHeapType) → not (bytes_eq (abstract_word t) w) ≡ true
-  heap_clear t = word_clear (abstract_word t) (heap_begins t)
-
-  short_clear : (t : AbstractHeapType) → not (bytes_eq (short_word t) w) ≡ true
-  short_clear t = word_clear (short_word t) (short_begins t)
-
-  -- ---- every operand
-
-  ref_clear : ref_form.Fronts any clear
-  ref_clear = search (rules, short_clear)
-
-  ordering_clear : ordering_form.Fronts any clear
-  ordering_clear =
-      (λ y h. word_clear (codes "seqcst") refl, λ y h. word_clear (codes "acqrel") refl)
-
-  place_clear : (k : ℕ) → (place_form k).Fronts any clear
-  place_clear k = (
-    (λ n y h. refl, (λ n y h. refl, λ n y h. refl)),
-    (
-      (λ y h. refl, (λ x y h. refl, λ x y h. refl)),
-      (
-        λ n y h. refl,
-        (
-          λ n y h. word_clear (codes "offset=" ++ decimal n) refl,
-          λ n y h. word_clear (codes "align=" ++ decimal n) refl,
-        ),
-      ),
-    ),
-  )
-
   operand_fronts : (h : Op) → (operand_form h).Fronts any clear
-  operand_fronts (ops.Access op) = place_clear (access_align op)
-  operand_fronts (ops.AtomicAccess op) =
-      ((λ y h. refl, λ y h. refl), (place_clear (atomic_access_align op), ordering_clear))
-  operand_fronts (ops.RmwAccess op) =
-      ((λ y h. refl, λ y h. refl), (place_clear (rmw_access_align op), ordering_clear))
-  operand_fronts (ops.OrderedIndex op) = ordering_clear
-  operand_fronts (ops.OrderedTable op) = ordering_clear
-  operand_fronts (ops.OrderedStruct op) = ordering_clear
-  operand_fronts (ops.LaneAccess op) = (place_clear (lane_access_align op), λ x y h. refl)
-  operand_fronts ops.ref_null = search (rules, heap_clear)
-  operand_fronts ops.ref_test = ref_clear
-  operand_fronts ops.ref_cast = ref_clear
-  operand_fronts ops.ref_cast_desc_eq = ref_clear
-  operand_fronts ops.atomic_fence = ordering_clear
-  operand_fronts ops.v128_const = (
-    λ y h. word_clear (codes "i8x16") refl,
-    (
-      λ y h. word_clear (codes "i16x8") refl,
-      (λ y h. word_clear (codes "i32x4") refl, (λ y h. word_clear (codes "i64x2") refl, tt)),
-    ),
-  )
-  operand_fronts _ = search rules
+  operand_fronts (ops.Block op) = search rules
+  operand_fronts _ = search (rules, word_clear, heap_begins, short_begins)
 
   pub operand_clear : (h : Op) (o : Operand) → (operand_form h).printable o ≡ true
       → begins_word w ((operand_form h).spell o) ≡ false

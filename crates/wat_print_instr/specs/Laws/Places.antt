@@ -1,20 +1,16 @@
 -- Laws: indices, pairs of indices, and branch tables are read again.
-use Rattle.std.specs.Prelude.{◌≡◌, zero, suc, true, not, ◌&&◌, List, [], ◌∷◌, ◌++◌}
-use Rattle.std.specs.Prelude.{flat_map, ◌⊎◌}
-use Rattle.std.proofs.Common.{rules, refl, ap, sym, ◌∙◌, append_assoc, append-nil, inl, inr, lit≤}
+use Rattle.std.specs.Prelude.{◌≡◌, true, not, ◌&&◌, List, [], ◌∷◌, ◌++◌, flat_map}
+use Rattle.std.proofs.Common.{rules, refl, ap, sym, ◌∙◌, append_assoc, append-nil, lit≤, arith}
 use Rattle.std.proofs.lemmas.Bool.{and_parts}
 use Rattle.std.proofs.lemmas.Grind.{flat_map-append}
 use Rattle.wat_lexer.specs.Token.{Tok}
-use Rattle.wat_tokens.specs.Index.{Idx, number, name, begins_index}
-use Rattle.wat_tokens.specs.Production.{Production}
-use Rattle.wat_tokens.specs.Parts.{seq}
+use Rattle.wat_tokens.specs.Index.{Idx, number, begins_index}
 use Rattle.wat_tokens.specs.Tests.{second}
 use Rattle.wat_operands.specs.Aggregates.{array_of_length}
 use Rattle.wat_operands.specs.Branch.{br_table_of, BrTableSpells, split, split_list}
 use Rattle.wat_operands.specs.BranchTable.{br_table}
 use Rattle.wat_operands.specs.Laws.Branch.{br_table_to, br_table_from}
 use Rattle.wat_operands.specs.Tables.{index_or_0, index_pair, init, into_0, copy}
-use Rattle.wat_print.specs.Form.{pick}
 use Rattle.wat_print.specs.Index.{spell_index, printable_index}
 use Rattle.wat_print.specs.Parts.{each}
 use Rattle.wat_print.specs.Prints.{Prints}
@@ -28,19 +24,10 @@ use Rattle.wat_print_instr.specs.Places.{printable_br_table, br_table_form}
 use Rattle.wat_print_instr.specs.Laws.Form.{default_prints}
 use Rattle.wat_print_instr.specs.Laws.Numbers.{unsigned_prints}
 
--- ---- one part, and then another
-
-pub both_here : {A B : Type 0} (g : Production A) (h : Production B) (v : A) (w : B)
-    (c d r : List Tok)
-    → g.spells v c (d ++ r) → h.spells w d r → (seq g h).spells (v, w) (c ++ d) r
-both_here g h v w c d r s t = (c, d, refl, s, t)
-
 -- ---- one index, or no index
 
 is_0 : (i : Idx) → is_index_0 i ≡ true → number 0 ≡ i
-is_0 (number zero) e = refl
-is_0 (number (suc n)) e = absurd cc
-is_0 (name x) e = absurd cc
+is_0 i e = grind arith
 
 pub index_or_0_prints : Prints index_or_0_form index_or_0
 unfolding index_or_0
@@ -59,39 +46,18 @@ pair_second : (p : Idx × Idx) (r : List Tok) → pair_form.ready p ≡ true
 pair_second p r h =
     pair_prints.front (λ t. true) (second begins_index) (search rules) p r h refl tt
 
-init_whole : (i j : Idx) → pick (λ (p : Idx × Idx). p) into_0 (init_parts (i, j)) ≡ (i, j)
-init_whole (number zero) j = refl
-init_whole (number (suc n)) j = refl
-init_whole (name x) j = refl
-
-init_ready : (i j : Idx) → printable_index i && printable_index j ≡ true
-    → pick pair_form.ready printable_index (init_parts (i, j)) ≡ true
-init_ready (number zero) j h = h
-init_ready (number (suc n)) j h = h
-init_ready (name x) j h = h
-
-init_covers : (v : Idx × Idx ⊎ Idx) → pick pair_form.printable printable_index v ≡ true
-    → pair_form.printable (pick (λ (p : Idx × Idx). p) into_0 v) ≡ true
-init_covers (inl p) h = h
-init_covers (inr i) h = h
-
 pub init_prints : Prints init_form init
 unfolding init
 init_prints =
     whole_where (told_prints (λ r. not (begins_index r)) (second begins_index) pair_prints
     (made_prints index_prints into_0) (λ p r h e. pair_second p r h) (search rules)) init_parts
-    pair_form.printable (λ p h. init_whole p.0 p.1) (λ p h. init_ready p.0 p.1 h) init_covers
-
-are_0 : (i j : Idx) → both_0 (i, j) ≡ true → ◌≡◌ {A = Idx × Idx} (number 0, number 0) (i, j)
-are_0 i j e =
-    let a = and_parts (is_index_0 i) (is_index_0 j) e in
-    rw (sym (is_0 i a.0), sym (is_0 j a.1)) refl
+    pair_form.printable (λ p h. grind (arith, is_0)) (λ p h. grind arith) (λ v h. grind arith)
 
 pub copy_prints : Prints copy_form copy
 unfolding copy
 copy_prints =
     default_prints begins_index pair_prints (search rules) pair_form.printable both_0
-    (number 0, number 0) (λ p e. are_0 p.0 p.1 e) (λ p e h. h) (λ p h. h) refl
+    (number 0, number 0) (λ p e. grind (arith, is_0)) (λ p e h. h) (λ p h. h) refl
 
 -- ---- an index and a length
 

@@ -1,8 +1,7 @@
 -- Laws: the first tokens of expressions, and the tests that stand before the body of a function.
 use Rattle.std.specs.Prelude.{◌≡◌, true, not, List, ◌∷◌, codes}
 use Rattle.std.proofs.Common.{refl}
-use Rattle.std.proofs.lemmas.Bool.{not-false, not_from_true}
-use Rattle.std.proofs.lemmas.Bool.{and_parts}
+use Rattle.std.proofs.lemmas.Bool.{not-false, not_from_true, and_parts}
 use Rattle.wat_lexer.specs.Token.{Tok, LParen, Keyword}
 use Rattle.wat_types.specs.Group.{begins_func}
 use Rattle.wat_mnemonics.specs.Ops.{op_word}
@@ -13,9 +12,8 @@ use Rattle.wat_fields.specs.Local.{local_follows}
 use Rattle.wat_print.specs.Form.{Test, any}
 use Rattle.wat_print.specs.Use.{use_form}
 use Rattle.wat_print.specs.Laws.Form.{not_true}
-use Rattle.wat_print_instr.specs.Laws.Expression.{NoMnemonic, expression_first}
-use Rattle.wat_print_instr.specs.Laws.Expression.{expression_second, expression_no_type}
-use Rattle.wat_print_instr.specs.Laws.Expression.{word_unsought}
+use Rattle.wat_print_instr.specs.Laws.Expression.{NoMnemonic, expression_first, expression_second}
+use Rattle.wat_print_instr.specs.Laws.Expression.{expression_no_type, no_mnemonic}
 use Rattle.wat_print_module.specs.Expression.{ends_expression, expression_form}
 use Rattle.wat_print_module.specs.Local.{locals_form}
 use Rattle.wat_print_module.specs.Laws.Expression.{end_of}
@@ -30,7 +28,7 @@ expression_front test f g e r h i k =
     (λ y. (not_from_true _ (g y))) e r (not_from_true (test r) k))
 
 no_local : NoMnemonic (codes "local")
-no_local o = (word_unsought o).no_local
+no_local = no_mnemonic (codes "local") refl
 
 -- no expression continues locals
 pub behind_locals : expression_form.Fronts ends_expression locals_form.follows

@@ -2,48 +2,49 @@
 use Rattle.std.specs.Prelude.{codes}
 use Rattle.std.proofs.Common.{refl, rules, arith, lit≤}
 use Rattle.wat_tokens.specs.Groups.{paren}
+use Rattle.wat_tokens.specs.Many.{many}
+use Rattle.wat_tokens.specs.Strings.{string}
 use Rattle.wat_tokens.specs.Tests.{more}
 use Rattle.wat_links.specs.Custom.{raw, produced, linked, begins_annotated, custom}
 use Rattle.wat_links.specs.Raw.{raw_of, raw_data, raw_custom}
 use Rattle.wat_print.specs.Form.{paren_form}
-use Rattle.wat_print.specs.Prints.{Prints}
+use Rattle.wat_print.specs.Prints.{Prints, Inside}
 use Rattle.wat_print.specs.Laws.Form.{seq_prints, made_prints, whole_prints, many_prints}
+use Rattle.wat_print.specs.Laws.Form.{grouped_prints, else_inside}
 use Rattle.wat_print.specs.Laws.Strings.{string_prints, text_prints}
 use Rattle.wat_print_module.specs.Custom.{pieces_form, raw_parts, raw_form, custom_parts}
 use Rattle.wat_print_module.specs.Custom.{custom_form}
-use Rattle.wat_print_module.specs.Laws.Annotation.{Inside, annotated, made_inside, whole_inside}
-use Rattle.wat_print_module.specs.Laws.Annotation.{else_inside, grouped_prints, custom_annotation}
+use Rattle.wat_print.specs.Laws.Annotation.{annotated}
 use Rattle.wat_print_module.specs.Laws.CustomPlace.{place_group_prints}
 use Rattle.wat_print_module.specs.Laws.Dylink.{dylink_inside}
 use Rattle.wat_print_module.specs.Laws.Producers.{producers_inside}
 
 -- ---- raw sections
 
-pieces_prints : Prints pieces_form raw_data
-unfolding raw_data
+pub pieces_prints : Prints pieces_form (many more string (lit≤ tt))
 pieces_prints = many_prints more string_prints (lit≤ tt) (search rules) (search rules)
 
 raw_inside : Inside raw_form (λ v. v) raw_custom
-unfolding raw_custom
+unfolding raw_custom raw_data
 raw_inside =
     annotated (whole_prints (made_prints (seq_prints text_prints
     (seq_prints place_group_prints pieces_prints (search rules)) (search rules))
     (λ v. raw_of v.0 v.1.0 v.1.1)) raw_parts (λ r h. refl) (λ r h. h) (λ v h. h)) refl
-    (codes "custom") custom_annotation refl refl
+    (codes "custom") refl refl refl
 
 pub raw_prints : Prints (paren_form raw_form) (paren raw_custom)
-raw_prints = grouped_prints raw_inside refl
+raw_prints = grouped_prints raw_inside
 
 -- ---- custom sections
 
 pub custom_inside : Inside custom_form (λ v. v) custom
 unfolding custom
 custom_inside =
-    whole_inside (else_inside (begins_annotated (codes "producers"))
-    (made_inside producers_inside produced)
-    (else_inside (begins_annotated (codes "dylink.0")) (made_inside dylink_inside linked)
-    (made_inside raw_inside raw) refl (search rules) (search rules)) refl (search rules)
+    whole_prints (else_inside (begins_annotated (codes "producers"))
+    (made_prints producers_inside produced)
+    (else_inside (begins_annotated (codes "dylink.0")) (made_prints dylink_inside linked)
+    (made_prints raw_inside raw) (search rules) (search rules)) (search rules)
     (search rules)) custom_parts (λ v h. grind arith) (λ v h. grind arith) (λ v h. grind arith)
 
 pub custom_prints : Prints (paren_form custom_form) (paren custom)
-custom_prints = grouped_prints custom_inside refl
+custom_prints = grouped_prints custom_inside

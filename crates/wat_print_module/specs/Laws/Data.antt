@@ -4,14 +4,14 @@ use Rattle.std.proofs.Common.{rules, arith, refl, inr, lit≤}
 use Rattle.wat_tokens.specs.Groups.{paren}
 use Rattle.wat_tokens.specs.Index.{number}
 use Rattle.wat_tokens.specs.Tests.{begins_word, begins_integer}
-use Rattle.wat_fields.specs.Data.{passive, active, data_of, begins_passive}
-use Rattle.wat_fields.specs.Data.{memory_follows, data_memory, data_active, data_kind, data_segment}
+use Rattle.wat_fields.specs.Data.{passive, active, data_of, begins_passive, memory_follows}
+use Rattle.wat_fields.specs.Data.{data_memory, data_active, data_kind, data_segment}
 use Rattle.wat_fields.specs.Offset.{head_behind, head_last, offset_inside}
 use Rattle.wat_print.specs.Index.{printable_index}
 use Rattle.wat_print.specs.Prints.{Prints}
 use Rattle.wat_print.specs.Laws.Form.{seq_prints, made_prints, whole_prints, whole_where}
 use Rattle.wat_print.specs.Laws.Form.{else_prints, unwritten_prints, paren_prints, after_prints}
-use Rattle.wat_print.specs.Laws.Form.{group_prints}
+use Rattle.wat_print.specs.Laws.Form.{group_prints, option_seen}
 use Rattle.wat_print.specs.Laws.Label.{label_prints}
 use Rattle.wat_print.specs.Laws.Only.{OnlyPrintable, only_seq, only_made, only_weaker}
 use Rattle.wat_print.specs.Laws.Reference.{index_prints}
@@ -26,7 +26,7 @@ use Rattle.wat_print_module.specs.Data.{data_kind_form, data_parts, data_form}
 use Rattle.wat_print_module.specs.Laws.DataVal.{data_vals_prints}
 use Rattle.wat_print_module.specs.Laws.Expression.{expression_prints}
 use Rattle.wat_print_module.specs.Laws.Folded.{behind_printable}
-use Rattle.wat_print_module.specs.Laws.Forms.{first_prints, option_seen}
+use Rattle.wat_print_module.specs.Laws.Forms.{first_prints}
 
 -- ---- memories and offsets
 
@@ -62,7 +62,7 @@ unfolding data_kind data_active
 data_kind_prints =
     whole_prints (made_prints (option_seen (λ t. not (begins_passive t))
     (made_prints (seq_prints data_memory_prints offset_prints (search rules))
-    (λ v. active v.0 v.1)) refl refl (search rules)) (λ k. unwrap_or k passive)) data_kind_parts
+    (λ v. active v.0 v.1)) (search rules)) (λ k. unwrap_or k passive)) data_kind_parts
     (λ k h. grind arith) (λ k h. h) (λ v h. grind arith)
 
 pub data_prints : Prints data_form data_segment

@@ -1,7 +1,7 @@
 -- Laws: the values of data segments are read again.
 use Rattle.std.specs.Prelude.{◌≡◌, ℕ, ℤ, zero, suc, pos, negsuc, ◌-◌, ◌-ℤ◌, ◌<◌, ◌≤◌, ◌%◌, ◌/◌, ◌^◌}
-use Rattle.std.specs.Prelude.{true, nat_lt, nat_le, List, [], ◌∷◌, map}
-use Rattle.std.specs.Prelude.{flat_map, codes, Some, decimal}
+use Rattle.std.specs.Prelude.{true, nat_lt, nat_le, List, [], ◌∷◌, map, flat_map, codes, Some}
+use Rattle.std.specs.Prelude.{decimal}
 use Rattle.std.specs.Int.{Width, w8, w16, w32, w64, cast_unsigned, to_le_bytes, bytes_low_first}
 use Rattle.std.specs.Int.{byte_at}
 use Rattle.std.proofs.Common.{refl, rules, ap, subst, sym, ◌∙◌, arith, lit≤}

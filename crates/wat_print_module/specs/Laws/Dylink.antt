@@ -1,11 +1,13 @@
 -- Laws: the `dylink.0` section is read again.
-use Rattle.std.specs.Prelude.{◌≡◌, ℕ, ◌^◌, Bool, true, ◌&&◌, List, [], ◌∷◌, ◌++◌, codes}
-use Rattle.std.specs.Prelude.{flat_map, fold, Some, unwrap_or}
+use Rattle.std.specs.Bool.{Decides}
+use Rattle.std.specs.Prelude.{◌≡◌, ℕ, ◌^◌, Bool, true, ◌&&◌, List, [], ◌∷◌, ◌++◌, codes, flat_map}
+use Rattle.std.specs.Prelude.{fold, Some, unwrap_or}
 use Rattle.std.specs.Int.Bits.{bit_or, or_zero_l}
 use Rattle.std.specs.Str.{bytes_eq}
-use Rattle.std.proofs.Common.{refl, rules, arith, ap, sym, ◌∙◌, inl, lit≤}
+use Rattle.std.proofs.Common.{refl, rules, arith, ap, sym, ◌∙◌, lit≤}
 use Rattle.std.proofs.Math.Bool.{and_assoc}
 use Rattle.std.proofs.lemmas.Bool.{and_parts, lt-ltb, ltb-true}
+use Rattle.std.proofs.lemmas.Bool.Decides.{Decides-and, Decides-like}
 use Rattle.std.proofs.lemmas.Grind.{flat_map-append}
 use Rattle.std.proofs.lemmas.Nat.{or_lt}
 use Rattle.wat_tokens.specs.Groups.{paren}
@@ -25,44 +27,35 @@ use Rattle.wat_links.specs.Laws.Entries.{entry_consumes}
 use Rattle.wat_links.specs.Laws.Flags.{flag_bits_consumes}
 use Rattle.wat_print.specs.Form.{paren_form}
 use Rattle.wat_print.specs.Parts.{each}
-use Rattle.wat_print.specs.Prints.{Prints}
+use Rattle.wat_print.specs.Prints.{Prints, Inside}
 use Rattle.wat_print.specs.WellFormed.{is_keyword}
 use Rattle.wat_print.specs.Laws.Form.{seq_prints, made_prints, whole_where, whole_prints}
 use Rattle.wat_print.specs.Laws.Form.{else_prints, filled_prints, many_prints, group_prints}
-use Rattle.wat_print.specs.Laws.Form.{prints_only}
-use Rattle.wat_print.specs.Laws.Only.{OnlyPrintable, only_word_in, only_where, only_made}
+use Rattle.wat_print.specs.Laws.Form.{prints_only, grouped_prints}
+use Rattle.wat_print.specs.Laws.Only.{only_word_in, only_made}
+use Rattle.wat_print_instr.specs.Laws.Form.{plain_prints}
 use Rattle.wat_print_module.specs.Dylink.{one_number, flags_form, export_form, import_parts}
 use Rattle.wat_print_module.specs.Dylink.{import_form, sizes_form, names_form, lone_parts}
 use Rattle.wat_print_module.specs.Dylink.{printable_lone, is_lone, lone_form, entry_parts}
-use Rattle.wat_print_module.specs.Dylink.{entry_form}
-use Rattle.wat_print_module.specs.Dylink.{entries_form, is_filled, is_apart, are_cut}
+use Rattle.wat_print_module.specs.Dylink.{entry_form, entries_form, is_filled, is_apart, are_cut}
 use Rattle.wat_print_module.specs.Dylink.{subsections_form, dylink_form}
 use Rattle.wat_print_instr.specs.Numbers.{is_unsigned, unsigned_form}
 use Rattle.wat_print.specs.Laws.Strings.{text_prints}
 use Rattle.wat_print_instr.specs.Laws.Numbers.{unsigned_prints}
-use Rattle.wat_print_module.specs.Laws.Annotation.{Inside, annotated, grouped_prints}
-use Rattle.wat_print_module.specs.Laws.Annotation.{dylink_annotation}
+use Rattle.wat_print.specs.Laws.Annotation.{annotated}
+use Rattle.wat_print_module.specs.Laws.Forms.{first_prints}
 
 -- ---- flags
 
 number_prints : Prints (unsigned_form 32) (unsigned 32)
 number_prints = unsigned_prints 32 (lit≤ tt) (lit≤ tt)
 
-flag_only : OnlyPrintable flag_bits (is_unsigned 32)
-unfolding flag_bits
-flag_only =
-    only_where begins_integer (prints_only number_prints)
-    (only_made (λ _. true) (λ f. f.0) (is_unsigned 32)
-    (only_word_in flag_words (λ f. is_unsigned 32 f.0) refl))
-
 flag_prints : Prints (unsigned_form 32) flag_bits
 unfolding flag_bits
-flag_prints = record {
-  nests = number_prints.nests;
-  front = number_prints.front;
-  here = λ n r h e. inl (refl, number_prints.here n r h e);
-  only = λ n c r a s. (n, refl, flag_only.holds n c r a s);
-}
+flag_prints =
+    first_prints begins_integer number_prints (λ n r. refl)
+    (only_made (λ _. true) (λ f. f.0) (is_unsigned 32)
+    (only_word_in flag_words (λ f. is_unsigned 32 f.0) refl))
 
 -- the bitwise or of numbers of 32 bits has 32 bits
 joined_printable : (ns : List ℕ) (n : ℕ) → is_unsigned 32 n ≡ true
@@ -155,48 +148,29 @@ pub ruleset more_entries = (entries_spelled, entries_printable)
 
 -- ---- how entries are cut into subsections
 
-filled_from : (s : SubsectionTy) → is_filled s ≡ true → IsFilled s
-filled_from (export_info []) h = absurd cc
-filled_from (import_info []) h = absurd cc
-filled_from (export_info (e ∷ es)) h = tt
-filled_from (import_info (e ∷ es)) h = tt
-filled_from _ h = tt
+filled_decides : (s : SubsectionTy) → Decides (is_filled s) (IsFilled s)
+filled_decides (export_info []) = (λ h. absurd cc, λ h. absurd h)
+filled_decides (import_info []) = (λ h. absurd cc, λ h. absurd h)
+filled_decides (export_info (e ∷ es)) = (λ h. tt, λ h. refl)
+filled_decides (import_info (e ∷ es)) = (λ h. tt, λ h. refl)
+filled_decides _ = (λ h. tt, λ h. refl)
 
-filled_to : (s : SubsectionTy) → IsFilled s → is_filled s ≡ true
-filled_to (export_info []) h = absurd h
-filled_to (import_info []) h = absurd h
-filled_to (export_info (e ∷ es)) h = refl
-filled_to (import_info (e ∷ es)) h = refl
-filled_to _ h = refl
+apart_decides : (s : SubsectionTy) (ss : List SubsectionTy)
+    → Decides (is_apart s ss) (IsApart s ss)
+apart_decides (export_info es) (export_info fs ∷ ss) = (λ h. absurd cc, λ h. absurd h)
+apart_decides (import_info es) (import_info fs ∷ ss) = (λ h. absurd cc, λ h. absurd h)
+apart_decides (export_info es) [] = (λ h. tt, λ h. refl)
+apart_decides (import_info es) [] = (λ h. tt, λ h. refl)
+apart_decides (export_info es) (_ ∷ ss) = (λ h. tt, λ h. refl)
+apart_decides (import_info es) (_ ∷ ss) = (λ h. tt, λ h. refl)
+apart_decides _ ss = (λ h. tt, λ h. refl)
 
-apart_from : (s : SubsectionTy) (ss : List SubsectionTy) → is_apart s ss ≡ true → IsApart s ss
-apart_from (export_info es) (export_info fs ∷ ss) h = absurd cc
-apart_from (import_info es) (import_info fs ∷ ss) h = absurd cc
-apart_from (export_info es) [] h = tt
-apart_from (import_info es) [] h = tt
-apart_from (export_info es) (_ ∷ ss) h = tt
-apart_from (import_info es) (_ ∷ ss) h = tt
-apart_from _ ss h = tt
-
-apart_to : (s : SubsectionTy) (ss : List SubsectionTy) → IsApart s ss → is_apart s ss ≡ true
-apart_to (export_info es) (export_info fs ∷ ss) h = absurd h
-apart_to (import_info es) (import_info fs ∷ ss) h = absurd h
-apart_to (export_info es) [] h = refl
-apart_to (import_info es) [] h = refl
-apart_to (export_info es) (_ ∷ ss) h = refl
-apart_to (import_info es) (_ ∷ ss) h = refl
-apart_to _ ss h = refl
-
-cut_by : (ss : List SubsectionTy) → are_cut ss ≡ true → AreCut ss
-cut_by [] h = tt
-cut_by (s ∷ ss) h =
-    let a = and_parts (is_filled s && is_apart s ss) (are_cut ss) h in
-    let b = and_parts (is_filled s) (is_apart s ss) a.0 in
-    (filled_from s b.0, apart_from s ss b.1, cut_by ss a.1)
-
-cut_tested : (ss : List SubsectionTy) → AreCut ss → are_cut ss ≡ true
-cut_tested [] h = refl
-cut_tested (s ∷ ss) h = rw (filled_to s h.0, apart_to s ss h.1) (cut_tested ss h.2)
+cut_decides : (ss : List SubsectionTy) → Decides (are_cut ss) (AreCut ss)
+cut_decides [] = (λ h. tt, λ h. refl)
+cut_decides (s ∷ ss) =
+    Decides-like (are_cut (s ∷ ss)) (λ h. (h.0, h.1.0, h.1.1)) (λ h. (h.0, (h.1, h.2)))
+    (Decides-and (is_filled s) (is_apart s ss && are_cut ss) (filled_decides s)
+    (Decides-and (is_apart s ss) (are_cut ss) (apart_decides s ss) (cut_decides ss)))
 
 -- ---- the section
 
@@ -204,25 +178,19 @@ cut_prints : Prints subsections_form cut_subsections
 unfolding cut_subsections
 cut_prints =
     let p = entries_prints in
-    record {
-      nests = λ ss h. (let a = and_parts (entries_form.printable (flat_map entries_in ss))
-          (are_cut ss) h in p.nests (flat_map entries_in ss) a.0);
-      front = λ rest test f ss r h i e. (
-          let a = and_parts (entries_form.printable (flat_map entries_in ss)) (are_cut ss) h in
-          p.front rest test f (flat_map entries_in ss) r a.0 i e);
-      here = λ ss r h e. (
-          let a = and_parts (entries_form.printable (flat_map entries_in ss)) (are_cut ss) h in
-          (p.here (flat_map entries_in ss) r a.0 e, cut_by ss a.1));
-      only = λ ss c r a s. (
-        ss,
-        refl,
-        rw ((prints_only p).holds (flat_map entries_in ss) c r a s.0) (cut_tested ss s.1),
-      );
-    }
+    plain_prints (λ ss. entries_form.spell (flat_map entries_in ss))
+    (λ ss h. p.nests (flat_map entries_in ss) (and_parts _ (are_cut ss) h).0)
+    (λ ss r h e. (
+    let a = and_parts (entries_form.printable (flat_map entries_in ss)) (are_cut ss) h in
+    (p.here (flat_map entries_in ss) r a.0 e, (cut_decides ss).0 a.1)))
+    (record {
+      holds = λ ss c r a s. rw ((prints_only p).holds (flat_map entries_in ss) c r a s.0)
+          ((cut_decides ss).1 s.1);
+    })
 
 pub dylink_inside : Inside dylink_form (λ v. v) dylink
 unfolding dylink
-dylink_inside = annotated cut_prints refl (codes "dylink.0") dylink_annotation refl refl
+dylink_inside = annotated cut_prints refl (codes "dylink.0") refl refl refl
 
 pub dylink_prints : Prints (paren_form dylink_form) (paren dylink)
-dylink_prints = grouped_prints dylink_inside refl
+dylink_prints = grouped_prints dylink_inside

@@ -1,6 +1,5 @@
 -- Laws: element segments and their elements are read again.
-use Rattle.std.specs.Prelude.{◌≡◌, ℕ, true, not, List, ◌∷◌, codes}
-use Rattle.std.specs.Prelude.{Some, is_none}
+use Rattle.std.specs.Prelude.{◌≡◌, ℕ, true, not, List, ◌∷◌, codes, Some, is_none}
 use Rattle.std.specs.Str.{bytes_eq}
 use Rattle.std.proofs.Common.{rules, arith, refl, append_assoc, lit≤}
 use Rattle.std.proofs.Math.Bool.{and_assoc}
@@ -11,21 +10,20 @@ use Rattle.wat_tokens.specs.Tests.{begins_word, begins_group, begins_integer, mo
 use Rattle.wat_types.specs.Reference.{begins_ref, begins_shorthand}
 use Rattle.wat_types.specs.declared.heap.AbstractHeapType.{AbstractHeapType}
 use Rattle.wat_types.specs.declared.heap.AbstractHeapType.TheVariants as word
-use Rattle.wat_fields.specs.Elem.{passive, declared, elem_of}
-use Rattle.wat_fields.specs.Elem.{elem_offset, active_of, in_table, table_number, in_some_table}
-use Rattle.wat_fields.specs.Elem.{declared_segment, passive_segment, begins_active}
-use Rattle.wat_fields.specs.Elem.{active_segment, segment, elem}
+use Rattle.wat_fields.specs.Elem.{passive, declared, elem_of, elem_offset, active_of, in_table}
+use Rattle.wat_fields.specs.Elem.{table_number, in_some_table, declared_segment, passive_segment}
+use Rattle.wat_fields.specs.Elem.{begins_active, active_segment, segment, elem}
 use Rattle.wat_fields.specs.Item.{written_or_folded, item}
 use Rattle.wat_fields.specs.Laws.Payload.{item_consumes}
-use Rattle.wat_fields.specs.Payload.{indices, exprs, item_list, index_list}
-use Rattle.wat_fields.specs.Payload.{typed_elems, payload, payload_or_indices}
+use Rattle.wat_fields.specs.Payload.{indices, exprs, item_list, index_list, typed_elems, payload}
+use Rattle.wat_fields.specs.Payload.{payload_or_indices}
 use Rattle.wat_print.specs.Form.{group_form}
 use Rattle.wat_print.specs.Prints.{Unparses, Prints}
 use Rattle.wat_print.specs.Reference.{short_word}
 use Rattle.wat_print.specs.WellFormed.{is_keyword}
 use Rattle.wat_print.specs.Laws.Form.{seq_prints, made_prints, whole_prints, whole_where, respelled}
-use Rattle.wat_print.specs.Laws.Form.{only_where_prints, unwritten_prints, else_prints, many_prints}
-use Rattle.wat_print.specs.Laws.Form.{after_prints, group_prints}
+use Rattle.wat_print.specs.Laws.Form.{only_where_prints, else_prints, many_prints, after_prints}
+use Rattle.wat_print.specs.Laws.Form.{group_prints, option_seen}
 use Rattle.wat_print.specs.Laws.Label.{label_prints}
 use Rattle.wat_print.specs.Laws.Reference.{index_prints, ref_prints}
 use Rattle.wat_print_instr.specs.Laws.Numbers.{unsigned_prints}
@@ -34,12 +32,12 @@ use Rattle.wat_print_module.specs.Data.{offset_form}
 use Rattle.wat_print_module.specs.Elem.{elem_item_form, elem_items_form, elem_indices_form}
 use Rattle.wat_print_module.specs.Elem.{typed_elems_form, payload_parts, payload_form}
 use Rattle.wat_print_module.specs.Elem.{bare_indices_form, any_payload_parts, any_payload_form}
-use Rattle.wat_print_module.specs.Elem.{mode_form, segment_parts, segment_form}
-use Rattle.wat_print_module.specs.Elem.{elem_parts, elem_form}
+use Rattle.wat_print_module.specs.Elem.{mode_form, segment_parts, segment_form, elem_parts}
+use Rattle.wat_print_module.specs.Elem.{elem_form}
 use Rattle.wat_print_module.specs.Expression.{expression_form}
 use Rattle.wat_print_module.specs.Laws.Expression.{expression_prints}
 use Rattle.wat_print_module.specs.Laws.Folded.{folded_only}
-use Rattle.wat_print_module.specs.Laws.Forms.{first_prints, option_seen}
+use Rattle.wat_print_module.specs.Laws.Forms.{first_prints}
 
 -- ---- the words of shorthands of reference types
 
@@ -102,12 +100,11 @@ payload_prints =
 
 bare_indices_prints : Unparses bare_indices_form indices (made indices index_list)
 bare_indices_prints =
-    let p = unwritten_prints (made_prints elem_indices_prints indices) in
     record {
-      nests = p.nests;
+      nests = λ is h. absurd cc;
       front = λ rest test f is r h i e. absurd cc;
-      here = p.here;
-      only = p.only;
+      here = λ is r h e. absurd cc;
+      only = (made_prints elem_indices_prints indices).only;
     }
 
 any_payload_prints : Prints any_payload_form payload_or_indices
@@ -136,7 +133,7 @@ segment_prints =
     (λ i. Some i)) (seq_prints elem_offset_prints payload_prints (search (rules, no_type)))
     (search rules)) active_of)
     (made_prints (seq_prints (only_where_prints (option_seen begins_integer
-    (made_prints (unsigned_prints 32 (lit≤ tt) (lit≤ tt)) number) refl refl (search rules))
+    (made_prints (unsigned_prints 32 (lit≤ tt) (lit≤ tt)) number) (search rules))
     (λ n. is_none n))
     (seq_prints elem_offset_prints any_payload_prints (search (rules, no_type)))
     (search rules)) active_of) (search rules) (search rules))

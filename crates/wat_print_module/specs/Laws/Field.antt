@@ -2,22 +2,21 @@
 use Rattle.std.specs.Prelude.{codes}
 use Rattle.std.proofs.Common.{refl, rules, arith}
 use Rattle.wat_tokens.specs.Tests.{begins_word}
-use Rattle.wat_core.specs.Field.{ModuleFieldTy, a_type, a_rec, an_import, a_func, a_table}
-use Rattle.wat_core.specs.Field.{a_memory, a_global}
-use Rattle.wat_core.specs.Field.{an_export, a_start, an_elem, a_data, a_tag, a_custom, start}
-use Rattle.wat_core.specs.Field.{start_or_later_field, global_or_later_field}
+use Rattle.wat_core.specs.Field.{ModuleFieldTy, a_type, a_rec, an_import, a_func, a_table, a_memory}
+use Rattle.wat_core.specs.Field.{a_global, an_export, a_start, an_elem, a_data, a_tag, a_custom}
+use Rattle.wat_core.specs.Field.{start, start_or_later_field, global_or_later_field}
 use Rattle.wat_core.specs.Field.{func_or_later_field, module_field}
 use Rattle.wat_core.specs.FieldGroup.{field_group}
 use Rattle.wat_print.specs.Form.{pick}
-use Rattle.wat_print.specs.Prints.{Prints}
+use Rattle.wat_print.specs.Prints.{Prints, Inside}
 use Rattle.wat_print.specs.Laws.Define.{type_prints, rec_prints}
-use Rattle.wat_print.specs.Laws.Form.{made_prints, after_prints}
+use Rattle.wat_print.specs.Laws.Form.{made_prints, after_prints, else_inside, grouped_prints}
+use Rattle.wat_print.specs.Laws.Form.{whole_prints}
 use Rattle.wat_print.specs.Laws.Reference.{index_prints}
-use Rattle.wat_print_module.specs.Field.{LateTree, MiddleTree, EarlyTree, FieldTree}
-use Rattle.wat_print_module.specs.Field.{start_form, late_form, middle_form, early_form, kinds_form}
+use Rattle.wat_print_module.specs.Field.{LateTree, MiddleTree, EarlyTree, FieldTree, start_form}
+use Rattle.wat_print_module.specs.Field.{late_form, middle_form, early_form, kinds_form}
 use Rattle.wat_print_module.specs.Field.{field_parts, field_form}
-use Rattle.wat_print_module.specs.Laws.Annotation.{Inside, inside, made_inside, whole_inside}
-use Rattle.wat_print_module.specs.Laws.Annotation.{else_inside, grouped_prints}
+use Rattle.wat_print.specs.Laws.Annotation.{inside}
 use Rattle.wat_print_module.specs.Laws.Custom.{custom_inside}
 use Rattle.wat_print_module.specs.Laws.Data.{data_prints}
 use Rattle.wat_print_module.specs.Laws.Elem.{elem_prints}
@@ -42,8 +41,8 @@ late_inside =
     else_inside (begins_word (codes "start")) (inside (made_prints start_prints a_start) refl)
     (else_inside (begins_word (codes "elem")) (inside (made_prints elem_prints an_elem) refl)
     (else_inside (begins_word (codes "data")) (inside (made_prints data_prints a_data) refl)
-    (made_inside custom_inside a_custom) refl (search rules) (search rules)) refl (search rules)
-    (search rules)) refl (search rules) (search rules)
+    (made_prints custom_inside a_custom) (search rules) (search rules)) (search rules)
+    (search rules)) (search rules) (search rules)
 
 abbrev middle_view : MiddleTree → ModuleFieldTy
 middle_view = pick a_global (pick an_export (pick a_tag late_view))
@@ -55,7 +54,7 @@ middle_inside =
     (inside (made_prints global_field_prints a_global) refl)
     (else_inside (begins_word (codes "export")) (inside (made_prints export_prints an_export) refl)
     (else_inside (begins_word (codes "tag")) (inside (made_prints tag_prints a_tag) refl)
-    late_inside refl (search rules) (search rules)) refl (search rules) (search rules)) refl
+    late_inside (search rules) (search rules)) (search rules) (search rules))
     (search rules) (search rules)
 
 abbrev early_view : EarlyTree → ModuleFieldTy
@@ -68,8 +67,8 @@ early_inside =
     (else_inside (begins_word (codes "table"))
     (inside (made_prints table_field_prints a_table) refl)
     (else_inside (begins_word (codes "memory"))
-    (inside (made_prints memory_field_prints a_memory) refl) middle_inside refl (search rules)
-    (search rules)) refl (search rules) (search rules)) refl (search rules) (search rules)
+    (inside (made_prints memory_field_prints a_memory) refl) middle_inside (search rules)
+    (search rules)) (search rules) (search rules)) (search rules) (search rules)
 
 abbrev kinds_view : FieldTree → ModuleFieldTy
 kinds_view = pick a_type (pick a_rec (pick an_import early_view))
@@ -80,10 +79,10 @@ kinds_inside =
     else_inside (begins_word (codes "type")) (inside (made_prints type_prints a_type) refl)
     (else_inside (begins_word (codes "rec")) (inside (made_prints rec_prints a_rec) refl)
     (else_inside (begins_word (codes "import")) (inside (made_prints imports_prints an_import) refl)
-    early_inside refl (search rules) (search rules)) refl (search rules) (search rules)) refl
+    early_inside (search rules) (search rules)) (search rules) (search rules))
     (search rules) (search rules)
 
 pub field_prints : Prints field_form field_group
 field_prints =
-    grouped_prints (whole_inside kinds_inside field_parts (λ f h. grind arith)
-    (λ f h. grind arith) (λ v h. grind arith)) refl
+    grouped_prints (whole_prints kinds_inside field_parts (λ f h. grind arith)
+    (λ f h. grind arith) (λ v h. grind arith))

@@ -1,23 +1,27 @@
 -- Laws: inline exports, inline imports and the heads of fields are read again.
-use Rattle.std.specs.Prelude.{codes}
+use Rattle.std.specs.Prelude.{codes, ◌≡◌, ℕ, true, List}
+use Rattle.std.specs.Str.{bytes_eq}
 use Rattle.std.proofs.Common.{refl, rules}
+use Rattle.wat_tokens.specs.Groups.{group}
+use Rattle.wat_tokens.specs.Strings.{text}
 use Rattle.wat_links.specs.Export.{begins_inline_export, inline_export}
 use Rattle.wat_links.specs.FieldHead.{field_head, head}
 use Rattle.wat_links.specs.Import.{inline_import}
 use Rattle.wat_links.specs.InlineName.{inline_name}
 use Rattle.wat_links.specs.Laws.Export.{inline_name_consumes}
 use Rattle.wat_print.specs.Prints.{Prints}
+use Rattle.wat_print.specs.WellFormed.{is_keyword}
 use Rattle.wat_print.specs.Laws.Form.{seq_prints, made_prints, whole_prints, many_prints}
 use Rattle.wat_print.specs.Laws.Form.{group_prints}
 use Rattle.wat_print.specs.Laws.Label.{label_prints}
-use Rattle.wat_print_module.specs.FieldHead.{inline_name_form, inline_export_form}
-use Rattle.wat_print_module.specs.FieldHead.{inline_import_form, head_parts, head_form}
+use Rattle.wat_print_module.specs.FieldHead.{inline_export_form, inline_import_form, head_parts}
+use Rattle.wat_print_module.specs.FieldHead.{head_form, name_group_form}
 use Rattle.wat_print.specs.Laws.Strings.{text_prints}
 
-inline_name_prints : Prints inline_name_form inline_name
-unfolding inline_name
-inline_name_prints =
-    let p = group_prints text_prints (codes "export") refl refl in
+pub name_group_prints : (w : List ℕ) → is_keyword w ≡ true → bytes_eq w w ≡ true
+    → Prints (name_group_form w) (group w text)
+name_group_prints w k e =
+    let p = group_prints text_prints w k e in
     record {
       nests = p.nests;
       front = λ rest test f n r h i e. f n r;
@@ -26,10 +30,10 @@ inline_name_prints =
     }
 
 pub inline_export_prints : Prints inline_export_form inline_export
-unfolding inline_export
+unfolding inline_export inline_name
 inline_export_prints =
-    many_prints begins_inline_export inline_name_prints inline_name_consumes (λ n y. refl)
-    (λ n y. refl)
+    many_prints begins_inline_export (name_group_prints (codes "export") refl refl)
+    inline_name_consumes (λ n y. refl) (λ n y. refl)
 
 pub inline_import_prints : Prints inline_import_form inline_import
 unfolding inline_import

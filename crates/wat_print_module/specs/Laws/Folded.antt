@@ -1,12 +1,11 @@
 -- Laws: the expression of a folded instruction can be written.
-use Rattle.std.specs.Prelude.{◌≡◌, ℕ, ◌+◌, true, ◌&&◌, List, []}
-use Rattle.std.specs.Prelude.{◌∷◌, ◌++◌, Option, Some, None, option_map}
+use Rattle.std.specs.Prelude.{◌≡◌, ℕ, ◌+◌, true, ◌&&◌, List, [], ◌∷◌, ◌++◌, Option, Some, None}
+use Rattle.std.specs.Prelude.{option_map}
 use Rattle.std.proofs.Common.{refl, subst, sym}
 use Rattle.std.proofs.lemmas.Bool.{and_parts}
 use Rattle.wat_lexer.specs.Token.{Tok}
 use Rattle.wat_instr.specs.Instruction.{Instr}
 use Rattle.wat_expr.specs.Expression.{Expr}
-use Rattle.wat_expr.specs.ExpressionProduction.{expression}
 use Rattle.wat_expr.specs.Folded.{Groups, NoGroup, Group, unfolded_groups, folded_value}
 use Rattle.wat_expr.specs.Folded.{folded_spells}
 use Rattle.wat_expr.specs.FoldedProduction.{folded_instruction}
@@ -16,10 +15,9 @@ use Rattle.wat_print.specs.Parts.{each}
 use Rattle.wat_print.specs.Laws.Only.{OnlyPrintable}
 use Rattle.wat_print.specs.Laws.Parts.{each_front}
 use Rattle.wat_print_instr.specs.ExpressionForm.{HintedInstr, step_of, printable_step, steps_from}
-use Rattle.wat_print_instr.specs.ExpressionForm.{hint_for, hints_after}
-use Rattle.wat_print_instr.specs.ExpressionForm.{printable_expression}
+use Rattle.wat_print_instr.specs.ExpressionForm.{hint_for, hints_after, printable_expression}
 use Rattle.wat_print_instr.specs.InstructionForm.{passes, printable_instruction}
-use Rattle.wat_print_instr.specs.Laws.Expression.{next_step}
+use Rattle.wat_print_instr.specs.Laws.Expression.{next_step, step_more}
 use Rattle.wat_print_instr.specs.Laws.FoldedOnly.{groups_printable}
 
 -- ---- steps without hints
@@ -32,12 +30,6 @@ step_first : (h : Option ℕ) (i : Instr) (o : Steps)
     → (printable_step (step_of h i) ≡ true) × (passes (each printable_step) o ≡ true)
 step_first h i (Some xs) f = and_parts (printable_step (step_of h i)) (each printable_step xs) f
 step_first h i None f = absurd cc
-
-step_more : (h : Option ℕ) (i : Instr) (o : Steps) → printable_step (step_of h i) ≡ true
-    → passes (each printable_step) o ≡ true
-    → passes (each printable_step) (option_map (λ xs. step_of h i ∷ xs) o) ≡ true
-step_more h i (Some xs) f g = rw (f, g) refl
-step_more h i None f g = absurd cc
 
 plain_steps : (b : ℕ) (is : List Instr) → each printable_instruction is ≡ true
     → passes (each printable_step) (steps_from b is []) ≡ true

@@ -7,8 +7,8 @@ use Rattle.wat_links.specs.Import.{begins_inline_import}
 use Rattle.wat_links.specs.Item.{func_use}
 use Rattle.wat_expr.specs.Expression.{Expr}
 use Rattle.wat_expr.specs.ExpressionProduction.{expression}
-use Rattle.wat_fields.specs.Func.{imported, inline, func_of, func_import, func_inline}
-use Rattle.wat_fields.specs.Func.{func_defined, func}
+use Rattle.wat_fields.specs.Func.{imported, inline, func_of, func_import, func_inline, func_defined}
+use Rattle.wat_fields.specs.Func.{func}
 use Rattle.wat_fields.specs.Local.{LocalTy}
 use Rattle.wat_fields.specs.Locals.{locals}
 use Rattle.wat_print.specs.Form.{Test}

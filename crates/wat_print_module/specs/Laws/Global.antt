@@ -2,12 +2,10 @@
 use Rattle.std.specs.Prelude.{◌≡◌, false, codes}
 use Rattle.std.specs.Str.{bytes_eq}
 use Rattle.std.proofs.Common.{refl, rules, arith}
-use Rattle.wat_types.specs.Value.{ValTy, i32}
+use Rattle.wat_types.specs.Value.{ValTy}
 use Rattle.wat_types.specs.declared.heap.AbstractHeapType.{AbstractHeapType}
-use Rattle.wat_types.specs.declared.heap.AbstractHeapType.TheVariants as words
 use Rattle.wat_links.specs.Import.{begins_inline_import}
-use Rattle.wat_fields.specs.Global.{imported, inline, global_of, global_defined}
-use Rattle.wat_fields.specs.Global.{global}
+use Rattle.wat_fields.specs.Global.{imported, inline, global_of, global_defined, global}
 use Rattle.wat_print.specs.Form.{any}
 use Rattle.wat_print.specs.Prints.{Prints}
 use Rattle.wat_print.specs.Reference.{short_word, plain_word}
@@ -15,7 +13,7 @@ use Rattle.wat_print.specs.Storage.{global_form}
 use Rattle.wat_print.specs.Laws.Form.{seq_prints, made_prints, whole_prints, else_prints}
 use Rattle.wat_print.specs.Laws.Form.{after_prints}
 use Rattle.wat_print.specs.Laws.Storage.{global_prints}
-use Rattle.wat_print_instr.specs.Laws.Expression.{word_unsought}
+use Rattle.wat_print_instr.specs.Laws.Expression.{no_mnemonic}
 use Rattle.wat_print_module.specs.Expression.{expression_form}
 use Rattle.wat_print_module.specs.Global.{defined_global_parts, defined_global_form}
 use Rattle.wat_print_module.specs.Global.{global_field_parts, global_field_form}
@@ -27,20 +25,16 @@ use Rattle.wat_print_module.specs.Laws.Fronts.{no_export, no_import_word}
 -- ---- words that no value type begins with
 
 plain_no_export : (t : ValTy) → bytes_eq (plain_word t) (codes "export") ≡ false
-plain_no_export i32 = refl
-plain_no_export _ = refl
+plain_no_export t = grind arith
 
 short_no_export : (t : AbstractHeapType) → bytes_eq (short_word t) (codes "export") ≡ false
-short_no_export words.Func = refl
-short_no_export _ = refl
+short_no_export t = grind arith
 
 plain_no_import : (t : ValTy) → bytes_eq (plain_word t) (codes "import") ≡ false
-plain_no_import i32 = refl
-plain_no_import _ = refl
+plain_no_import t = grind arith
 
 short_no_import : (t : AbstractHeapType) → bytes_eq (short_word t) (codes "import") ≡ false
-short_no_import words.Func = refl
-short_no_import _ = refl
+short_no_import t = grind arith
 
 -- ---- globals
 
@@ -48,7 +42,8 @@ short_no_import _ = refl
 behind_type : expression_form.Fronts any global_form.follows
 behind_type =
     expression_front global_form.follows
-    (λ h y. (let u = word_unsought h in rw (u.no_shared, u.no_mut) refl)) (λ y. refl)
+    (λ h y. rw (no_mnemonic (codes "shared") refl h, no_mnemonic (codes "mut") refl h) refl)
+    (λ y. refl)
 
 defined_global_prints : Prints defined_global_form global_defined
 unfolding global_defined

@@ -1,28 +1,31 @@
 -- Laws: imports are read again.
-use Rattle.std.specs.Prelude.{◌≡◌, true, not, List, [], ◌∷◌, ◌++◌, codes, is_none}
-use Rattle.std.proofs.Common.{refl, rules}
+use Rattle.std.specs.Prelude.{◌≡◌, true, List, [], ◌∷◌, ◌++◌, codes, is_none, ℕ, false}
+use Rattle.std.specs.Str.{bytes_eq}
+use Rattle.std.proofs.Common.{refl, rules, arith}
 use Rattle.std.proofs.lemmas.Bool.{and_parts}
-use Rattle.wat_lexer.specs.Token.{Tok}
+use Rattle.wat_lexer.specs.Token.{Tok, String}
 use Rattle.wat_tokens.specs.Parts.{made_where, seq}
 use Rattle.wat_tokens.specs.Strings.{text}
-use Rattle.wat_tokens.specs.Tests.{ends}
+use Rattle.wat_tokens.specs.Tests.{ends, begins_lparen}
 use Rattle.wat_links.specs.Forms.{import_items, imports}
-use Rattle.wat_links.specs.Import.{ItemsTy, single, group1, group2, imports_of, item_follows}
-use Rattle.wat_links.specs.Import.{shared_sig, typed_list, named_list}
+use Rattle.wat_links.specs.Import.{single, group1, group2, imports_of, item_follows, shared_sig}
+use Rattle.wat_links.specs.Import.{typed_list, named_list, import_choice, typed_items, named_items}
+use Rattle.wat_links.specs.Import.{single_item, typed}
 use Rattle.wat_links.specs.ImportItem.{sig_group, typed_item, named_item}
-use Rattle.wat_links.specs.Item.{item_sig}
+use Rattle.wat_links.specs.Item.{item_sig, SigTy}
 use Rattle.wat_links.specs.ItemForms.{ItemsSpells}
+use Rattle.wat_links.specs.Laws.Forms.{items_to, items_from}
 use Rattle.wat_links.specs.Laws.Import.{typed_item_consumes, named_item_consumes}
-use Rattle.wat_print.specs.Form.{Test}
-use Rattle.wat_print.specs.Parts.{each}
 use Rattle.wat_print.specs.Prints.{Prints}
-use Rattle.wat_print.specs.WellFormed.{WellFormed, is_given}
-use Rattle.wat_print.specs.Laws.Form.{not_true, seq_prints, made_prints, whole_prints, many_prints}
+use Rattle.wat_print.specs.Laws.Form.{seq_prints, made_prints, whole_prints, many_prints}
 use Rattle.wat_print.specs.Laws.Form.{paren_prints, after_prints, group_prints, prints_only}
-use Rattle.wat_print_module.specs.Import.{single_form, typed_items_form}
-use Rattle.wat_print_module.specs.Import.{shared_form, sharing_form, items_form}
-use Rattle.wat_print_module.specs.Import.{imports_parts, imports_form}
+use Rattle.wat_print.specs.Laws.Form.{restated_prints, told_prints, else_prints, where_prints}
+use Rattle.wat_print.specs.Laws.Form.{only_where_prints}
+use Rattle.wat_print_module.specs.Import.{single_form, typed_items_form, shared_form, sharing_form}
+use Rattle.wat_print_module.specs.Import.{items_form, imports_parts, imports_form, items_parts}
 use Rattle.wat_print_module.specs.Item.{printable_sig}
+use Rattle.wat_print_module.specs.Laws.FieldHead.{name_group_prints}
+use Rattle.wat_print_module.specs.Laws.Fronts.{OnGroup}
 use Rattle.wat_print_module.specs.Laws.Item.{sig_prints}
 use Rattle.wat_print.specs.Laws.Strings.{text_prints}
 
@@ -38,74 +41,43 @@ typed_prints =
     typed_item_consumes (search rules) (search rules)
 
 shared_prints : Prints shared_form (made_where (λ s. is_none s.label.id) (λ s. s) item_sig)
-shared_prints = record {
-  nests = λ s h. sig_prints.nests s (and_parts (is_none s.label.id) (printable_sig s) h).1;
-  front = λ rest test f s r h i e.
-      sig_prints.front rest test f s r (and_parts (is_none s.label.id) (printable_sig s) h).1 i e;
-  here = λ s r h e. (let a = and_parts (is_none s.label.id) (printable_sig s) h in
-      (s, sig_prints.here s r a.1 e, a.0, refl));
-  only = λ s c r a p. (
-    s,
-    refl,
-    rw (← p.3, p.2) ((prints_only sig_prints).holds p.0 c r a p.1),
-  );
-}
+shared_prints =
+    let ok = λ (s : SigTy). is_none s.label.id in
+    let p = where_prints (only_where_prints sig_prints ok) ok (λ s. s)
+    (λ s h. (and_parts (ok s) (printable_sig s) h).0) in
+    record {
+      nests = p.nests;
+      front = p.front;
+      here = p.here;
+      only = λ s c r a q. (s, refl, rw (← q.3, q.2) ((prints_only sig_prints).holds q.0 c r a q.1));
+    }
 
 sharing_prints : Prints sharing_form (seq named_list shared_sig)
 unfolding named_list named_item shared_sig
 sharing_prints =
-    seq_prints (many_prints item_follows (group_prints text_prints (codes "item") refl refl)
-    named_item_consumes (search rules) (search rules)) (paren_prints shared_prints) (search rules)
+    seq_prints (many_prints item_follows (name_group_prints (codes "item") refl refl)
+    named_item_consumes (λ n y. refl) (λ n y. refl)) (paren_prints shared_prints) (search rules)
 
 -- ---- the three forms of imports
 
-items_nests : (v : ItemsTy) → items_form.ready v ≡ true → WellFormed (items_form.spell v)
-items_nests (single n s) h = single_prints.nests (n, s) h
-items_nests (group1 xs) h = typed_prints.nests xs h
-items_nests (group2 s ns) h = sharing_prints.nests (ns, s) h
+-- no signature begins with `item`
+no_item : (k : List ℕ) → bytes_eq k (codes "item") ≡ false → OnGroup typed k
+no_item k e (String s ∷ y) = rw e refl
+no_item k e _ = refl
 
-items_front : (rest test : Test) → items_form.Fronts rest test → (v : ItemsTy) (r : List Tok)
-    → items_form.ready v ≡ true → rest r ≡ true → test r ≡ true
-    → test (items_form.spell v ++ r) ≡ true
-items_front rest test f (single n s) r h i e = single_prints.front rest test f.0 (n, s) r h i tt
-items_front rest test f (group1 xs) r h i e = typed_prints.front rest test f.1.0 xs r h i e
-items_front rest test f (group2 s ns) r h i e =
-    sharing_prints.front rest test f.1.1 (ns, s) r h i tt
-
-items_here : (v : ItemsTy) (r : List Tok) → items_form.ready v ≡ true
-    → items_form.follows r ≡ true → ItemsSpells v (items_form.spell v) r
-items_here (single n s) r h e =
-    let a = and_parts (ends r) _ e in
-    let b = and_parts (single_form.follows r) (typed_items_form.follows r) a.1 in
-    single_prints.here (n, s) r h b.0
-items_here (group1 []) r h e =
-    let a = and_parts (ends r) _ e in
-    let b = and_parts (single_form.follows r) (typed_items_form.follows r) a.1 in
-    (refl, not_true (item_follows r) (and_parts (not (item_follows r)) _ b.1).0, a.0)
-items_here (group1 (x ∷ xs)) r h e =
-    let a = and_parts (ends r) _ e in
-    let b = and_parts (single_form.follows r) (typed_items_form.follows r) a.1 in
-    typed_prints.here (x ∷ xs) r h b.1
-items_here (group2 s ns) r h e =
-    let a = and_parts (ends r) _ e in
-    let b = and_parts (single_form.follows r) (typed_items_form.follows r) a.1 in
-    sharing_prints.here (ns, s) r h b.0
-
-items_only : (v : ItemsTy) (c r : List Tok) → each is_given c ≡ true → ItemsSpells v c r
-    → items_form.printable v ≡ true
-items_only (single n s) c r a p = (prints_only single_prints).holds (n, s) c r a p
-items_only (group1 []) c r a p = refl
-items_only (group1 (x ∷ xs)) c r a p = (prints_only typed_prints).holds (x ∷ xs) c r a p
-items_only (group2 s ns) c r a p = (prints_only sharing_prints).holds (ns, s) c r a p
+typed_begin : (xs : List (List ℕ × SigTy)) (r : List Tok) → typed_items_form.ready xs ≡ true
+    → ends r ≡ true → typed (typed_items_form.spell xs ++ r) ≡ true
+typed_begin [] r h e = rw e refl
+typed_begin (x ∷ xs) r h e = refl
 
 items_prints : Prints items_form import_items
-unfolding import_items
-items_prints = record {
-  nests = items_nests;
-  front = items_front;
-  here = items_here;
-  only = λ v c r a p. (v, refl, items_only v c r a p);
-}
+unfolding import_items import_choice typed_items named_items single_item
+items_prints =
+    restated_prints (whole_prints (told_prints ends typed (made_prints typed_prints group1)
+    (else_prints begins_lparen (made_prints sharing_prints (λ v. group2 v.1 v.0))
+    (made_prints single_prints (λ v. single v.0 v.1)) (λ n y. refl, search rules) (search rules))
+    typed_begin ((λ n y. refl, search (rules, no_item)), search rules)) items_parts
+    (λ v h. grind arith) (λ v h. h) (λ v h. grind arith)) ItemsSpells items_to items_from
 
 pub imports_prints : Prints imports_form imports
 unfolding imports

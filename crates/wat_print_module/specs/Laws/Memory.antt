@@ -10,8 +10,8 @@ use Rattle.wat_print.specs.Prints.{Prints, Unparses}
 use Rattle.wat_print.specs.Laws.Form.{seq_prints, behind_prints, made_prints, whole_prints}
 use Rattle.wat_print.specs.Laws.Form.{else_prints, after_prints, group_prints}
 use Rattle.wat_print.specs.Laws.Limits.{width_prints, page_prints, memory_prints}
-use Rattle.wat_print_module.specs.Memory.{inline_memory_form, memory_kind_parts}
-use Rattle.wat_print_module.specs.Memory.{memory_kind_form, memory_field_parts, memory_field_form}
+use Rattle.wat_print_module.specs.Memory.{inline_memory_form, memory_kind_parts, memory_kind_form}
+use Rattle.wat_print_module.specs.Memory.{memory_field_parts, memory_field_form}
 use Rattle.wat_print_module.specs.Laws.DataVal.{data_vals_prints}
 use Rattle.wat_print_module.specs.Laws.FieldHead.{inline_import_prints, head_prints}
 use Rattle.wat_print_module.specs.Laws.Fronts.{no_export, no_import_word}

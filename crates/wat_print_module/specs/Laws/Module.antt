@@ -1,11 +1,10 @@
 -- Laws: modules are read again.
-use Rattle.std.specs.Prelude.{◌≡◌, ℕ, zero, suc, Bool, true, false, List, [], ◌∷◌, codes}
-use Rattle.std.specs.Prelude.{Option, Some, None, slice_get}
-use Rattle.std.proofs.Common.{refl, rules, arith, lit≤, subst, sym}
+use Rattle.std.specs.Prelude.{◌≡◌, ℕ, zero, suc, Bool, true, false, List, [], ◌∷◌, codes, Option}
+use Rattle.std.specs.Prelude.{Some, None, slice_get}
+use Rattle.std.proofs.Common.{refl, rules, arith, subst, sym}
 use Rattle.std.proofs.lemmas.Bool.{and_right}
 use Rattle.wat_lexer.specs.Token.{Tok}
 use Rattle.wat_tokens.specs.Groups.{paren}
-use Rattle.wat_tokens.specs.Parts.{after_word}
 use Rattle.wat_tokens.specs.Tests.{begins_word, more}
 use Rattle.wat_types.specs.Label.{label}
 use Rattle.wat_core.specs.Field.{ModuleFieldTy}
@@ -15,42 +14,44 @@ use Rattle.wat_core.specs.Module.{ModuleKindTy, text, binary, ModuleTy, module_w
 use Rattle.wat_core.specs.Module.{module_kind, module_}
 use Rattle.wat_core.specs.Text.{IsModule, SpellsModule}
 use Rattle.wat_core.specs.Laws.Text.{is_module}
+use Rattle.wat_print.specs.Form.{any}
 use Rattle.wat_print.specs.Label.{label_form}
 use Rattle.wat_print.specs.Layout.{Writes}
 use Rattle.wat_print.specs.Parts.{each}
+use Rattle.wat_print.specs.Printed.{NoneSpells}
 use Rattle.wat_print.specs.Prints.{Prints}
 use Rattle.wat_print.specs.Text.{Page, blank_page}
 use Rattle.wat_print.specs.Laws.Form.{seq_prints, made_prints, whole_prints, else_prints}
-use Rattle.wat_print.specs.Laws.Form.{many_prints}
-use Rattle.wat_print.specs.Laws.Form.{paren_prints, after_prints, prints_only}
+use Rattle.wat_print.specs.Laws.Form.{many_prints, paren_prints, after_prints, prints_only}
 use Rattle.wat_print.specs.Laws.Label.{label_prints}
 use Rattle.wat_print.specs.Laws.Nesting.{well_formed_visible}
 use Rattle.wat_print.specs.Laws.Printed.{cut_back, unspelled}
-use Rattle.wat_print.specs.Laws.Strings.{string_prints}
 use Rattle.wat_print_module.specs.Field.{field_form}
-use Rattle.wat_print_module.specs.Module.{fields_form, binary_form, kind_parts, module_kind_form}
-use Rattle.wat_print_module.specs.Module.{module_parts, module_form, module_group_form}
-use Rattle.wat_print_module.specs.Module.{spell_module_group, fields_of_kind, UnprintableField}
-use Rattle.wat_print_module.specs.Module.{UnprintablePart, NonePart}
+use Rattle.wat_print_module.specs.Module.{fields_form, kind_parts, module_kind_form, module_parts}
+use Rattle.wat_print_module.specs.Module.{module_form, module_group_form, spell_module_group}
+use Rattle.wat_print_module.specs.Module.{fields_of_kind, UnprintableField, UnprintablePart}
+use Rattle.wat_print_module.specs.Module.{NonePart}
+use Rattle.wat_print_module.specs.Laws.Custom.{pieces_prints}
 use Rattle.wat_print_module.specs.Laws.Field.{field_prints}
 
 -- ---- modules
 
+-- another field may follow a field
+field_behind : field_form.Fronts any field_form.follows
+field_behind =
+    let f : (y : List Tok) → any y ≡ true → true ≡ true = λ y e. refl in
+    let g : (y : List Tok) → true ≡ true = λ y. refl in
+    (f, (f, (f, (f, (f, (f, (f, (f, (f, (f, (f, (f, (g, (g, g))))))))))))))
+
 fields_prints : Prints fields_form fields
 unfolding fields
-fields_prints =
-    many_prints more field_prints field_group_consumes (search rules) (search rules)
-
-binary_prints : Prints binary_form (after_word (codes "binary") pieces)
-unfolding pieces
-binary_prints =
-    after_prints (many_prints more string_prints (lit≤ tt) (search rules) (search rules))
-    (codes "binary") refl refl
+fields_prints = many_prints more field_prints field_group_consumes (search rules) field_behind
 
 kind_prints : Prints module_kind_form module_kind
-unfolding module_kind
+unfolding module_kind pieces
 kind_prints =
-    whole_prints (else_prints (begins_word (codes "binary")) (made_prints binary_prints binary)
+    whole_prints (else_prints (begins_word (codes "binary"))
+    (made_prints (after_prints pieces_prints (codes "binary") refl refl) binary)
     (made_prints fields_prints text) (search rules) (search rules)) kind_parts
     (λ k h. grind arith) (λ k h. h) (λ v h. grind arith)
 
@@ -99,6 +100,12 @@ part_unprintable m (Some i) u =
     and_right (label_form.printable m.label) (module_kind_form.printable m.kind)
     (kind_unprintable m.kind i u)
 part_unprintable m None u = rw u refl
+
+-- no text spells the module then
+pub module_none : (m : ModuleTy) (o : Option ℕ) → UnprintablePart m o → NoneSpells (paren module_) m
+module_none m o u =
+    unspelled (paren module_) m (module_form.printable m) (part_unprintable m o u)
+    ((prints_only module_group_prints).holds m)
 
 -- no text spells the part then
 pub part_none : (m : ModuleTy) (o : Option ℕ) → UnprintablePart m o → NonePart m o

@@ -1,19 +1,23 @@
 -- Laws: tables are read again.
+use Rattle.std.specs.Bool.{Decides}
+use Rattle.std.specs.Cmp.{booleans_Decides}
 use Rattle.std.specs.Cmp.Lexicographic.{bytes_decides}
-use Rattle.std.specs.Prelude.{◌≡◌, ℕ, Bool, true, false, not, ◌&&◌, ◌==◌, List, [], ◌∷◌, ◌++◌}
-use Rattle.std.specs.Prelude.{codes, flat_map, map, Option, Some, None, get_or, ◌+◌, option_map}
-use Rattle.std.specs.Prelude.{◌⊎◌}
+use Rattle.std.specs.Prelude.{◌≡◌, ℕ, Bool, true, false, not, ◌&&◌, List, [], ◌∷◌, ◌++◌, codes}
+use Rattle.std.specs.Prelude.{flat_map, map, Option, Some, None, option_map, ◌⊎◌}
 use Rattle.std.specs.Str.{bytes_eq}
 use Rattle.std.proofs.Common.{rules, arith, refl, ap, subst, sym, ◌∙◌, append_assoc, inl, inr}
-use Rattle.std.proofs.lemmas.Bool.{and_parts, eqb-true}
+use Rattle.std.proofs.Math.Bool.{beq}
+use Rattle.std.proofs.lemmas.Bool.{and_parts}
+use Rattle.std.proofs.lemmas.Bool.Decides.{Decides-like, Decides-and}
+use Rattle.std.proofs.lemmas.Slice.Eq.{bytes_eq-Decides}
 use Rattle.wat_lexer.specs.Token.{Tok, Keyword}
 use Rattle.wat_tokens.specs.Groups.{group}
-use Rattle.wat_tokens.specs.Index.{Idx}
+use Rattle.wat_tokens.specs.Index.{Idx, same_index}
 use Rattle.wat_tokens.specs.Parts.{seq, made, flag, opt, where_else}
 use Rattle.wat_tokens.specs.Production.{Production}
-use Rattle.wat_tokens.specs.Tests.{begins_word, begins_lparen, begins_integer, more, ends}
+use Rattle.wat_tokens.specs.Tests.{begins_word, begins_lparen, begins_integer, more, ends, word_in}
 use Rattle.wat_tokens.specs.Laws.Index.{same_index_decides}
-use Rattle.wat_types.specs.Heap.{HeapTy, concrete, exact, abstract_}
+use Rattle.wat_types.specs.Heap.{HeapTy, concrete, exact, abstract_, abstract_word, abstract_words}
 use Rattle.wat_types.specs.Limits.{is_64, table_type_of, table_type}
 use Rattle.wat_types.specs.Reference.{RefTy, ref_type, begins_ref, begins_shorthand}
 use Rattle.wat_types.specs.declared.heap.AbstractHeapType.{AbstractHeapType}
@@ -23,7 +27,7 @@ use Rattle.wat_expr.specs.ExpressionProduction.{expression}
 use Rattle.wat_expr.specs.Items.{Items, Nil, Folded, IfThen, IfElse, Hinted, lists, unfolded}
 use Rattle.wat_expr.specs.Progress.{Fits}
 use Rattle.wat_fields.specs.Payload.{PayloadTy, indices, exprs, ref_func_of, by_index, by_item}
-use Rattle.wat_fields.specs.Payload.{of_type, item_list, listed}
+use Rattle.wat_fields.specs.Payload.{of_type, item_list, listed, is_funcref}
 use Rattle.wat_fields.specs.Table.{TableKindTy, imported, normal, inline, table_of}
 use Rattle.wat_fields.specs.Table.{begins_inline_elems, begins_normal, inline_of, inline_table}
 use Rattle.wat_fields.specs.Table.{normal_table, imported_table, table_kind, table}
@@ -46,16 +50,15 @@ use Rattle.wat_print_instr.specs.ExpressionForm.{spell_expression, printable_exp
 use Rattle.wat_print_instr.specs.InstructionForm.{passes}
 use Rattle.wat_print_instr.specs.Laws.Expression.{next_step}
 use Rattle.wat_print_instr.specs.Laws.Form.{plain_prints}
-use Rattle.wat_print_instr.specs.Laws.Numbers.{same_number}
 use Rattle.wat_print_module.specs.Elem.{elem_items_form}
 use Rattle.wat_print_module.specs.Expression.{ends_expression}
-use Rattle.wat_print_module.specs.Table.{where_form, heap_number, same_flag, same_heap, same_ref}
-use Rattle.wat_print_module.specs.Table.{some_items, listed_form, listed_parts, printable_elements}
-use Rattle.wat_print_module.specs.Table.{elems_form, InlineTree, inline_table_form, apart, no_ref}
-use Rattle.wat_print_module.specs.Table.{type_form, printable_initial, initial_form}
-use Rattle.wat_print_module.specs.Table.{normal_table_form, imported_table_form, KindTree}
-use Rattle.wat_print_module.specs.Table.{table_kind_parts, printable_table_kind, table_kind_form}
-use Rattle.wat_print_module.specs.Table.{table_field_parts, table_field_form}
+use Rattle.wat_print_module.specs.Table.{where_form, same_heap, same_ref, some_items, listed_form}
+use Rattle.wat_print_module.specs.Table.{listed_parts, printable_elements, elems_form, InlineTree}
+use Rattle.wat_print_module.specs.Table.{inline_table_form, apart, no_ref, type_form}
+use Rattle.wat_print_module.specs.Table.{printable_initial, initial_form, normal_table_form}
+use Rattle.wat_print_module.specs.Table.{imported_table_form, KindTree, table_kind_parts}
+use Rattle.wat_print_module.specs.Table.{printable_table_kind, table_kind_form, table_field_parts}
+use Rattle.wat_print_module.specs.Table.{table_field_form}
 use Rattle.wat_print_module.specs.Laws.Elem.{short_begins, elem_items_prints, elem_indices_prints}
 use Rattle.wat_print_module.specs.Laws.Expression.{expression_prints}
 use Rattle.wat_print_module.specs.Laws.FieldHead.{inline_import_prints, head_prints}
@@ -91,38 +94,34 @@ module _ {A B C : Type 0} {form : Form A} {other : Form B} {view : A → C} {als
 
 -- ---- types that are the same
 
-abbrev heaps : List AbstractHeapType
-heaps =
-    word.Func ∷ word.Extern ∷ word.Exn ∷ word.Cont ∷ word.Any ∷ word.Eq ∷ word.Struct ∷ word.Array
-    ∷ word.I31 ∷ word.NoFunc ∷ word.NoExtern ∷ word.None ∷ word.NoExn ∷ word.NoCont ∷ []
+word_back : (t : AbstractHeapType)
+    → word_in abstract_words (Keyword (abstract_word t)) ≡ Some t
+word_back t = grind arith
 
-heap_back : (t : AbstractHeapType) → get_or heaps (heap_number t) word.Func ≡ t
-heap_back word.Func = refl
-heap_back _ = refl
+word_decides : (t u : AbstractHeapType)
+    → Decides (bytes_eq (abstract_word t) (abstract_word u)) (t ≡ u)
+word_decides t u =
+    Decides-like (bytes_eq (abstract_word t) (abstract_word u)) (λ e. cc (word_back t, word_back u))
+    (ap abstract_word) (bytes_eq-Decides (abstract_word t) (abstract_word u))
 
-same_heaps : (h k : HeapTy) → same_heap h k ≡ true → h ≡ k
-same_heaps (concrete i) (concrete j) e = ap concrete ((same_index_decides i j).0 e)
-same_heaps (exact i) (exact j) e = ap exact ((same_index_decides i j).0 e)
-same_heaps (abstract_ a t) (abstract_ b u) e =
-    let p = and_parts (same_flag a b) (heap_number t == heap_number u) e in
-    let f : a ≡ b = grind arith in
-    let n = eqb-true (heap_number t) (heap_number u) p.1 in
-    cc (heap_back t, heap_back u)
-same_heaps _ _ e = absurd cc
+heap_decides : (h k : HeapTy) → Decides (same_heap h k) (h ≡ k)
+heap_decides (concrete i) (concrete j) =
+    Decides-like (same_index i j) (ap concrete) (λ e. cc) (same_index_decides i j)
+heap_decides (exact i) (exact j) =
+    Decides-like (same_index i j) (ap exact) (λ e. cc) (same_index_decides i j)
+heap_decides (abstract_ a t) (abstract_ b u) =
+    Decides-like (same_heap (abstract_ a t) (abstract_ b u)) (λ e. cc (e.0, e.1)) (λ e. (cc, cc))
+    (Decides-and (beq a b) _ (booleans_Decides a b) (word_decides t u))
+heap_decides _ _ = (λ h. absurd cc, λ h. absurd cc)
 
-heap_again : (h : HeapTy) → same_heap h h ≡ true
-heap_again (concrete i) = (same_index_decides i i).1 refl
-heap_again (exact i) = (same_index_decides i i).1 refl
-heap_again (abstract_ a t) = grind (arith, same_number)
-
-same_refs : (t u : RefTy) → same_ref t u ≡ true → t ≡ u
-same_refs t u e =
-    let p = and_parts (same_flag t.nullable u.nullable) (same_heap t.heap u.heap) e in
-    let a : t.nullable ≡ u.nullable = grind arith in
-    let b = same_heaps t.heap u.heap p.1 in rw (a, b) refl
+ref_decides : (t u : RefTy) → Decides (same_ref t u) (t ≡ u)
+ref_decides t u =
+    Decides-like (same_ref t u) (λ e. (rw (e.0, e.1) refl)) (λ e. (cc, cc))
+    (Decides-and (beq t.nullable u.nullable) _ (booleans_Decides t.nullable u.nullable)
+    (heap_decides t.heap u.heap))
 
 ref_again : (t : RefTy) → same_ref t t ≡ true
-ref_again t = grind (arith, heap_again)
+ref_again t = (ref_decides t t).1 refl
 
 -- ---- elements
 
@@ -148,11 +147,15 @@ elements_are : (t : RefTy) (p : PayloadTy) → printable_elements t p ≡ true
     → of_type t (pick by_item by_index (listed_parts p)) ≡ p
 elements_are t (indices is) h = grind arith
 elements_are t (exprs u es) h =
-    let a = same_refs t u (and_parts (same_ref t u) _ h).0 in grind arith
+    let a = (ref_decides t u).0 (and_parts (same_ref t u) _ h).0 in grind arith
 
 elements_ready : (t : RefTy) (p : PayloadTy) → printable_elements t p ≡ true
     → listed_form.ready (listed_parts p) ≡ true
-elements_ready t p h = grind arith
+elements_ready t (indices is) h = (and_parts (is_funcref t) _ h).1
+elements_ready t (exprs u []) h = refl
+elements_ready t (exprs u (e ∷ es)) h =
+    let a = and_parts (same_ref t u) _ h in
+    (and_parts (not (is_funcref t && false)) (elem_items_form.printable (e ∷ es)) a.1).1
 
 funcs_printable : (is : List Idx) → each printable_index is ≡ true
     → each printable_expression (map ref_func_of is) ≡ true

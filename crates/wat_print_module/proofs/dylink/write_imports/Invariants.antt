@@ -1,5 +1,4 @@
-use Rattle.std.proofs.Common.{drop}
-use Rattle.std.specs.Prelude.{map}
+use Rattle.std.proofs.Common.{drop, map}
 use Rattle.wat_links.specs.Dylink.{dylink_import_view}
 use Rattle.wat_links.specs.Entries.{of_import}
 use Rattle.wat_print.specs.Prints.{Left}

@@ -1,5 +1,4 @@
-use Rattle.std.proofs.Common.{drop}
-use Rattle.std.specs.Prelude.{flat_map, map}
+use Rattle.std.proofs.Common.{drop, flat_map, map}
 use Rattle.wat_links.specs.Dylink.{subsection_view}
 use Rattle.wat_links.specs.Entries.{entries_in}
 use Rattle.wat_print.specs.Prints.{Left}

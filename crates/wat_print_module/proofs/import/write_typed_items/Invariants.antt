@@ -1,5 +1,4 @@
-use Rattle.std.proofs.Common.{drop}
-use Rattle.std.specs.Prelude.{map}
+use Rattle.std.proofs.Common.{drop, map}
 use Rattle.wat_links.specs.Import.{typed_view}
 use Rattle.wat_print.specs.Prints.{Left}
 use Rattle.wat_print_module.specs.Import.{typed_form}

@@ -1,5 +1,4 @@
-use Rattle.std.proofs.Common.{drop}
-use Rattle.std.specs.Prelude.{map}
+use Rattle.std.proofs.Common.{drop, map}
 use Rattle.wat_print.specs.Prints.{Left}
 use Rattle.wat_print.specs.Strings.{string_form}
 use Rattle.wat_print_module.proofs.raw.write_pieces.Given as goal
