@@ -2,8 +2,9 @@ pub mod InTheGroup
 pub mod Ends
 pub mod Fields
 pub mod Heads
-pub mod IndependentOfRest
+pub mod AnyRest
 pub mod Places
 pub mod Rows
 pub mod Stands
 pub mod Telling
+pub mod ToEnd

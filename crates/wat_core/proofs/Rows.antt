@@ -14,7 +14,7 @@ use Rattle.wat_types.specs.FunctionSpells.{func_groups}
 use Rattle.wat_types.specs.Label.{label}
 use Rattle.wat_types.specs.Limits.{is_64, limits_type, pagesize_or_none, memory_type, table_type}
 use Rattle.wat_types.specs.Recursion.{types, rec}
-use Rattle.wat_types.specs.Reference.{shorthand, begins_shorthand, ref_type}
+use Rattle.wat_types.specs.Reference.{shorthand, ref_type, at_shorthand}
 use Rattle.wat_types.specs.Storage.{global_type}
 use Rattle.wat_types.specs.Use.{type_use}
 use Rattle.wat_types.specs.Value.{val_type}
@@ -90,7 +90,7 @@ unfolding module_ module_kind fields module_field func_or_later_field global_or_
 of_functions = (spelled_whole module_ _ _ (rw nothing_read refl), spelled_whole module_ _ _ refl)
 
 pub of_stores : Stores
-unfolding module_ module_kind fields module_field func_or_later_field table table_kind normal_table table_type memory memory_kind memory_type limits_type is_64 ref_type shorthand begins_shorthand pagesize_or_none head inline_export label name_annotation many_at many_reads read
+unfolding module_ module_kind fields module_field func_or_later_field table table_kind normal_table table_type memory memory_kind memory_type limits_type is_64 ref_type shorthand at_shorthand pagesize_or_none head inline_export label name_annotation many_at many_reads read
 of_stores = (spelled_whole module_ _ _ refl, spelled_whole module_ _ _ refl)
 
 abbrev const_text : List Tok

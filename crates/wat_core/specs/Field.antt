@@ -3,7 +3,6 @@ use Rattle.std.specs.Prelude.{Bool, true, List, codes}
 use Rattle.wat_tokens.specs.Index.{Idx, index_view, index}
 use Rattle.wat_tokens.specs.Parts.{made, where_else, after_word}
 use Rattle.wat_tokens.specs.Production.{Production}
-use Rattle.wat_tokens.specs.Tests.{begins_word}
 use Rattle.wat_tokens.specs.Views.{no_items}
 use Rattle.wat_types.specs.Define.{TypeTy, type_view, bare_type, type_}
 use Rattle.wat_types.specs.Recursion.{rec_view, rec}
@@ -21,6 +20,7 @@ use Rattle.wat_fields.specs.Tag.{TagTy, tag_view, bare_tag, tag}
 use Rattle.wat_types.specs.declared.define.«Type».{«Type»}
 use Rattle.wat_types.specs.declared.define.Rec.{Rec}
 use Rattle.wat_tokens.specs.declared.index.Index.{Index}
+use Rattle.wat_tokens.specs.Test.{at_word}
 use Rattle.wat_links.specs.declared.custom.Custom.{Custom}
 use Rattle.wat_links.specs.declared.export.Export.{Export}
 use Rattle.wat_links.specs.declared.import.ImportsOf.{ImportsOf}
@@ -99,31 +99,31 @@ start = after_word (codes "start") index
 -- Start | Elem | Data | Custom
 unfoldable pub start_or_later_field : Production ModuleFieldTy
 start_or_later_field =
-    where_else (begins_word (codes "start")) (made a_start start)
-    (where_else (begins_word (codes "elem")) (made an_elem elem)
-    (where_else (begins_word (codes "data")) (made a_data data_segment)
+    where_else (at_word (codes "start")) (made a_start start)
+    (where_else (at_word (codes "elem")) (made an_elem elem)
+    (where_else (at_word (codes "data")) (made a_data data_segment)
     (made a_custom custom)))
 
 -- Global | Export | Tag | start_or_later_field
 unfoldable pub global_or_later_field : Production ModuleFieldTy
 global_or_later_field =
-    where_else (begins_word (codes "global")) (made a_global global)
-    (where_else (begins_word (codes "export")) (made an_export export_)
-    (where_else (begins_word (codes "tag")) (made a_tag tag)
+    where_else (at_word (codes "global")) (made a_global global)
+    (where_else (at_word (codes "export")) (made an_export export_)
+    (where_else (at_word (codes "tag")) (made a_tag tag)
     start_or_later_field))
 
 -- Func | Table | Memory | global_or_later_field
 unfoldable pub func_or_later_field : Production ModuleFieldTy
 func_or_later_field =
-    where_else (begins_word (codes "func")) (made a_func func)
-    (where_else (begins_word (codes "table")) (made a_table table)
-    (where_else (begins_word (codes "memory")) (made a_memory memory)
+    where_else (at_word (codes "func")) (made a_func func)
+    (where_else (at_word (codes "table")) (made a_table table)
+    (where_else (at_word (codes "memory")) (made a_memory memory)
     global_or_later_field))
 
 -- Type | Rec | Imports | func_or_later_field
 unfoldable pub module_field : Production ModuleFieldTy
 module_field =
-    where_else (begins_word (codes "type")) (made a_type type_)
-    (where_else (begins_word (codes "rec")) (made a_rec rec)
-    (where_else (begins_word (codes "import")) (made an_import imports)
+    where_else (at_word (codes "type")) (made a_type type_)
+    (where_else (at_word (codes "rec")) (made a_rec rec)
+    (where_else (at_word (codes "import")) (made an_import imports)
     func_or_later_field))

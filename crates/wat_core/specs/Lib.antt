@@ -7,7 +7,7 @@ pub use Rattle.wat_lexer.specs.Place as LexerPlace
 pub use Rattle.wat_lexer.specs.Scan
 pub use Rattle.wat_lexer.specs.View
 pub use Rattle.wat_tokens.specs.Adding
-pub use Rattle.wat_tokens.specs.Begin
+pub use Rattle.wat_tokens.specs.Asks
 pub use Rattle.wat_tokens.specs.Copies
 pub use Rattle.wat_tokens.specs.Cost
 pub use Rattle.wat_tokens.specs.Counts
@@ -17,6 +17,7 @@ pub use Rattle.wat_tokens.specs.Groups
 pub use Rattle.wat_tokens.specs.Index
 pub use Rattle.wat_tokens.specs.Integers
 pub use Rattle.wat_tokens.specs.Joined
+pub use Rattle.wat_tokens.specs.Kind
 pub use Rattle.wat_tokens.specs.Lookup
 pub use Rattle.wat_tokens.specs.Many
 pub use Rattle.wat_tokens.specs.ManySpells
@@ -32,6 +33,7 @@ pub use Rattle.wat_tokens.specs.Sight
 pub use Rattle.wat_tokens.specs.State
 pub use Rattle.wat_tokens.specs.Steady
 pub use Rattle.wat_tokens.specs.Strings
+pub use Rattle.wat_tokens.specs.Test
 pub use Rattle.wat_tokens.specs.Tests
 pub use Rattle.wat_tokens.specs.Token
 pub use Rattle.wat_tokens.specs.Views

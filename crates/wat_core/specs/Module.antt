@@ -6,8 +6,8 @@ use Rattle.wat_tokens.specs.Many.{many}
 use Rattle.wat_tokens.specs.Parts.{seq, made, where_else, after_word}
 use Rattle.wat_tokens.specs.Production.{Production}
 use Rattle.wat_tokens.specs.Strings.{string}
-use Rattle.wat_tokens.specs.Tests.{begins_word, more}
 use Rattle.wat_tokens.specs.Views.{no_items}
+use Rattle.wat_tokens.specs.Test.{at_word, at_more}
 use Rattle.wat_types.specs.Label.{Label, label_view, label}
 use Rattle.wat_core.specs.Field.{ModuleFieldTy, ModuleField, field_view}
 use Rattle.wat_core.specs.declared.module.«Module».{«Module»}
@@ -56,16 +56,16 @@ bare_module m = bare_module_kind m.kind
 
 -- ( ModuleField )*, to the end
 unfoldable pub fields : Production (List ModuleFieldTy)
-fields = many more field_group field_group_consumes
+fields = many at_more field_group field_group_consumes
 
 -- bytes*, to the end
 unfoldable pub pieces : Production (List (List ℕ))
-pieces = many more string (lit≤ tt)
+pieces = many at_more string (lit≤ tt)
 
 -- `binary` bytes* if `binary` is next; otherwise ( ModuleField )*
 unfoldable pub module_kind : Production ModuleKindTy
 module_kind =
-    where_else (begins_word (codes "binary")) (made binary (after_word (codes "binary") pieces))
+    where_else (at_word (codes "binary")) (made binary (after_word (codes "binary") pieces))
     (made text fields)
 
 -- `module id? name?`, and then the contents

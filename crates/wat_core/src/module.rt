@@ -82,7 +82,7 @@ impl<'a> Part<'a, ModuleField<'a>> for FieldGroup {
 }
 
 /// Parses `binary` and strings, or fields in their groups.
-#[tactic(auto, using(crate::specs::Laws::Module::field_group_consumes), unfolding(crate::specs::Module::module_kind, crate::specs::Module::fields, crate::specs::Module::pieces))]
+#[tactic(auto, using(crate::proofs::ToEnd::read_to_end), unfolding(crate::specs::Module::module_kind))]
 fn read_module_kind<'a>(parser: &mut Parser<'a>) -> Result<ModuleKind<'a>>
     ensures reads { ReadsAt turns_too (owning module_kind_view bare_module_kind) module_kind result
         parser.old parser.new }

@@ -1,9 +1,11 @@
 -- The production of an expression.
+use Rattle.wat_tokens.specs.Asks.{everything}
 use Rattle.wat_tokens.specs.Production.{Production}
 use Rattle.wat_expr.specs.Expression.{Expr, expression_spells}
 use Rattle.wat_expr.specs.Reading.{expression_reads}
 use Rattle.wat_expr.specs.Laws.Reading.{expression_sound, expression_complete, expression_takes}
 use Rattle.wat_expr.specs.Laws.Reading.{expression_balanced}
+use Rattle.wat_expr.specs.Laws.Moves.{expression_moves}
 
 -- items up to the end
 unfoldable pub expression : Production Expr
@@ -15,4 +17,6 @@ expression = record {
   complete = expression_complete;
   takes = expression_takes;
   balanced = expression_balanced;
+  asks = everything;
+  moves = expression_moves;
 }

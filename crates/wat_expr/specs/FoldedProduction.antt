@@ -1,8 +1,10 @@
 -- The production of a folded instruction.
+use Rattle.wat_tokens.specs.Asks.{everything}
 use Rattle.wat_tokens.specs.Production.{Production}
 use Rattle.wat_expr.specs.Expression.{Expr}
 use Rattle.wat_expr.specs.Folded.{folded_reads, folded_spells}
 use Rattle.wat_expr.specs.Laws.Folded.{folded_sound, folded_complete, folded_takes, folded_balanced}
+use Rattle.wat_expr.specs.Laws.Moves.{folded_moves}
 
 -- ( i groups )
 unfoldable pub folded_instruction : Production Expr
@@ -14,4 +16,6 @@ folded_instruction = record {
   complete = folded_complete;
   takes = folded_takes;
   balanced = folded_balanced;
+  asks = everything;
+  moves = folded_moves;
 }

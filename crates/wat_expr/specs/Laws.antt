@@ -2,4 +2,5 @@
 pub mod Alone
 pub mod Facts
 pub mod Folded
+pub mod Moves
 pub mod Reading

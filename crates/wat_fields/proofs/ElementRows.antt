@@ -11,7 +11,7 @@ use Rattle.wat_tokens.specs.Token.{Tok, Keyword, Integer, RParen}
 use Rattle.wat_types.specs.Label.{label}
 use Rattle.wat_types.specs.Heap.{abstract_heap_type, heap_type}
 use Rattle.wat_types.specs.Limits.{is_64, limits_type, table_type}
-use Rattle.wat_types.specs.Reference.{shorthand, begins_shorthand, ref_type}
+use Rattle.wat_types.specs.Reference.{shorthand, at_shorthand, ref_type}
 use Rattle.wat_links.specs.Export.{inline_export}
 use Rattle.wat_links.specs.FieldHead.{head}
 use Rattle.wat_mnemonics.specs.Word.{mnemonic_of}
@@ -36,7 +36,7 @@ unfolding elem segment declared_segment payload index_list label name_annotation
 declared_func = spelled_whole elem _ _ refl
 
 pub of_externref : OfExternref
-unfolding table table_kind inline_table listed index_list head inline_export label name_annotation is_64 ref_type shorthand begins_shorthand many_at many_reads read
+unfolding table table_kind inline_table listed index_list head inline_export label name_annotation is_64 ref_type shorthand at_shorthand many_at many_reads read
 of_externref = spelled_whole table _ _ refl
 
 const_word : mnemonic_of (codes "i32.const") ≡ Some word.i32_const
@@ -53,7 +53,7 @@ unfolding instruction operand read
 const_folded = folded_read zero_const const_text behind_const (rw const_word refl)
 
 pub active_functions : Active
-unfolding elem segment active_segment in_some_table table_number elem_offset written_or_folded payload_or_indices begins_shorthand index_list label name_annotation many_at many_reads read
+unfolding elem segment active_segment in_some_table table_number elem_offset written_or_folded payload_or_indices at_shorthand index_list label name_annotation many_at many_reads read
 active_functions = spelled_whole elem active_text active_elem (rw const_folded refl)
 
 null_word : mnemonic_of (codes "ref.null") ≡ Some word.ref_null
@@ -70,7 +70,7 @@ null_folded : folded_instruction.reads (in_parens null_text) ≡ Some (alone nul
 null_folded = folded_read null_func null_text [] null_front
 
 pub table_of_nulls : OfNulls
-unfolding table table_kind normal_table table_type limits_type is_64 ref_type shorthand begins_shorthand head inline_export label name_annotation many_at many_reads read
+unfolding table table_kind normal_table table_type limits_type is_64 ref_type shorthand at_shorthand head inline_export label name_annotation many_at many_reads read
 table_of_nulls = spelled_whole table nulls_text nulls (rw null_read refl)
 
 func_word : mnemonic_of (codes "ref.func") ≡ Some (word.Indexed op.ref_func)
@@ -87,5 +87,5 @@ unfolding instruction operand read
 func_read = alone_read (instr_of (word.Indexed op.ref_func) (operands.one_index (number 0))) func_text behind_func (rw func_word refl) refl
 
 pub elem_of_items : OfItems
-unfolding elem segment passive_segment payload typed_elems item_list item written_or_folded ref_type shorthand begins_shorthand label name_annotation many_at many_reads read
+unfolding elem segment passive_segment payload typed_elems item_list item written_or_folded ref_type shorthand at_shorthand label name_annotation many_at many_reads read
 elem_of_items = spelled_whole elem items_text two_items (rw (func_read, null_folded) refl)

@@ -1,16 +1,18 @@
 -- Data segments.
-use Rattle.std.specs.Prelude.{Bool, true, not, ◌&&◌, List, ◌∷◌, codes, unwrap_or}
-use Rattle.wat_tokens.specs.Token.{Tok, RParen, String}
-use Rattle.wat_tokens.specs.Tests.{begins_word, begins_integer, second}
+use Rattle.std.specs.Prelude.{Bool, true, ◌&&◌, List, codes, unwrap_or}
+use Rattle.wat_tokens.specs.Token.{Tok}
 use Rattle.wat_tokens.specs.Production.{Production}
 use Rattle.wat_tokens.specs.Parts.{seq, made, where_else, opt, after_word}
 use Rattle.wat_tokens.specs.Groups.{group, paren}
 use Rattle.wat_tokens.specs.Index.{Idx, number, index_view, index}
 use Rattle.wat_tokens.specs.Integers.{unsigned}
 use Rattle.wat_tokens.specs.Views.{no_items}
+use Rattle.wat_tokens.specs.Test.{at_integer, Test, run, either_test, opposite_test, at_kind}
+use Rattle.wat_tokens.specs.Test.{at_string, second_word}
+use Rattle.wat_tokens.specs.Kind.{a_rparen}
 use Rattle.wat_types.specs.Label.{Label, label_view, label}
 use Rattle.wat_expr.specs.Expression.{Expr, expression_view, bare_expression}
-use Rattle.wat_fields.specs.Numbers.{begins_numbers}
+use Rattle.wat_fields.specs.Numbers.{at_numbers}
 use Rattle.wat_fields.specs.DataVal.{DataValTy, data_vals_view}
 use Rattle.wat_fields.specs.DataVals.{data_vals}
 use Rattle.wat_fields.specs.Offset.{offset_inside}
@@ -52,21 +54,25 @@ bare_data d = bare_data_kind d.kind && no_items d.vals
 -- ---- the grammar
 
 -- `)`, a string, or a group of numbers
+abbrev pub at_passive : Test
+at_passive = either_test (at_kind a_rparen) (either_test at_string at_numbers)
+
 abbrev pub begins_passive : List Tok → Bool
-begins_passive (RParen ∷ r) = true
-begins_passive (String s ∷ r) = true
-begins_passive t = begins_numbers t
+begins_passive t = run at_passive t
 
 -- the second token is `memory`, whatever the first token is
+abbrev pub at_memory : Test
+at_memory = second_word (codes "memory")
+
 abbrev pub memory_follows : List Tok → Bool
-memory_follows t = second (begins_word (codes "memory")) t
+memory_follows t = run at_memory t
 
 -- u32 if an Integer is next; ( memory idx ) if the second token is `memory`; otherwise nothing,
 -- memory 0
 unfoldable pub data_memory : Production Idx
 data_memory =
-    where_else begins_integer (made number (unsigned 32))
-    (made (λ i. unwrap_or i (number 0)) (opt memory_follows (group (codes "memory") index)))
+    where_else at_integer (made number (unsigned 32))
+    (made (λ i. unwrap_or i (number 0)) (opt at_memory (group (codes "memory") index)))
 
 -- a memory, and ( offset )
 unfoldable pub data_active : Production DataKindTy
@@ -74,7 +80,7 @@ data_active = made (λ v. active v.0 v.1) (seq data_memory (paren offset_inside)
 
 -- passive if `)`, a string or a group of numbers is next; otherwise active
 unfoldable pub data_kind : Production DataKindTy
-data_kind = made (λ k. unwrap_or k passive) (opt (λ t. not (begins_passive t)) data_active)
+data_kind = made (λ k. unwrap_or k passive) (opt (opposite_test at_passive) data_active)
 
 -- `data id? name?`, a kind, and DataVal*, to the end
 unfoldable pub data_segment : Production DataTy

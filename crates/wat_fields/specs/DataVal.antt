@@ -1,11 +1,11 @@
 -- Values of data segments.
 use Rattle.std.specs.Prelude.{ℕ, Bool, true, List, map}
-use Rattle.wat_tokens.specs.Tests.{begins_lparen}
 use Rattle.wat_tokens.specs.Production.{Production}
 use Rattle.wat_tokens.specs.Parts.{made, where_else}
 use Rattle.wat_tokens.specs.Groups.{paren}
 use Rattle.wat_tokens.specs.Strings.{string}
 use Rattle.wat_tokens.specs.Views.{no_items}
+use Rattle.wat_tokens.specs.Test.{at_lparen}
 use Rattle.wat_fields.specs.Numbers.{number_list}
 use Rattle.wat_fields.specs.declared.data_val.DataVal.{DataVal}
 use Rattle.wat_fields.specs.declared.data_val.DataVal.TheVariants as code
@@ -38,4 +38,4 @@ bare_val (numbers bs) = no_items bs
 
 -- ( numbers ) if `(` is next; otherwise bytes
 unfoldable pub data_val : Production DataValTy
-data_val = where_else begins_lparen (made numbers (paren number_list)) (made written string)
+data_val = where_else at_lparen (made numbers (paren number_list)) (made written string)

@@ -1,15 +1,16 @@
 -- Element segments.
-use Rattle.std.specs.Prelude.{Bool, true, not, ◌&&◌, ◌||◌, List, codes, Option, Some}
+use Rattle.std.specs.Prelude.{Bool, true, ◌&&◌, List, codes, Option, Some}
 use Rattle.wat_tokens.specs.Token.{Tok}
-use Rattle.wat_tokens.specs.Tests.{begins_word, begins_group, begins_integer, begins_lparen}
 use Rattle.wat_tokens.specs.Production.{Production}
 use Rattle.wat_tokens.specs.Parts.{seq, made, where_else, opt, after_word}
 use Rattle.wat_tokens.specs.Groups.{group}
 use Rattle.wat_tokens.specs.Index.{Idx, number, index_view, index}
 use Rattle.wat_tokens.specs.Integers.{unsigned}
 use Rattle.wat_tokens.specs.Views.{option_view}
+use Rattle.wat_tokens.specs.Test.{at_word, at_group, at_integer, Test, run, either_test, test_of}
+use Rattle.wat_tokens.specs.Test.{both, opposite, at_lparen}
 use Rattle.wat_types.specs.Label.{Label, label_view, label}
-use Rattle.wat_types.specs.Reference.{begins_ref}
+use Rattle.wat_types.specs.Reference.{at_ref}
 use Rattle.wat_expr.specs.Expression.{Expr, expression_view, bare_expression}
 use Rattle.wat_fields.specs.Payload.{PayloadTy, payload_view, bare_payload, payload}
 use Rattle.wat_fields.specs.Payload.{payload_or_indices}
@@ -79,7 +80,7 @@ in_table =
 
 -- u32 if an Integer is next
 unfoldable pub table_number : Production (Option Idx)
-table_number = opt begins_integer (made number (unsigned 32))
+table_number = opt at_integer (made number (unsigned 32))
 
 -- u32 or nothing, and then an offset and a payload, which can be indices alone
 unfoldable pub in_some_table : Production Segment
@@ -94,20 +95,24 @@ unfoldable pub passive_segment : Production Segment
 passive_segment = made (λ p. (passive, p)) payload
 
 -- an Integer, or `(` that doesn't begin a RefType
+abbrev pub at_active : Test
+at_active =
+    either_test at_integer (test_of (both at_lparen.asks (opposite at_ref.asks)) at_ref.calm)
+
 abbrev pub begins_active : List Tok → Bool
-begins_active t = begins_integer t || (begins_lparen t && not (begins_ref t))
+begins_active t = run at_active t
 
 -- in a written table if `(` and `table` are next; otherwise in the table of the number, or in a
 -- table that isn't written
 unfoldable pub active_segment : Production Segment
-active_segment = where_else (begins_group (codes "table")) in_table in_some_table
+active_segment = where_else (at_group (codes "table")) in_table in_some_table
 
 -- declared if `declare` is next; active if an Integer is next, or `(` that doesn't begin a RefType;
 -- otherwise passive
 unfoldable pub segment : Production Segment
 segment =
-    where_else (begins_word (codes "declare")) declared_segment
-    (where_else begins_active active_segment passive_segment)
+    where_else (at_word (codes "declare")) declared_segment
+    (where_else at_active active_segment passive_segment)
 
 -- `elem id? name?`, and then the mode and the elements
 unfoldable pub elem : Production ElemTy

@@ -11,7 +11,8 @@ use Rattle.wat_types.specs.declared.function.FunctionType.{FunctionType}
 use Rattle.wat_types.specs.declared.type_use.TypeUse.{TypeUse}
 use Rattle.wat_links.specs.Export.{inline_export_view}
 use Rattle.wat_links.specs.FieldHead.{FieldHeadTy, field_head, bare_head, head}
-use Rattle.wat_links.specs.Import.{inline_import_view, inline_import, begins_inline_import}
+use Rattle.wat_links.specs.Import.{inline_import_view, inline_import}
+use Rattle.wat_links.specs.Import.{at_inline_import}
 use Rattle.wat_links.specs.Item.{func_use, exact_use}
 use Rattle.wat_expr.specs.Expression.{Expr, expression_view, bare_expression}
 use Rattle.wat_expr.specs.ExpressionProduction.{expression}
@@ -86,7 +87,7 @@ func_inline = made (λ v. (v.0, inline v.1.0 v.1.1)) (seq func_use (seq locals e
 
 -- an inline import if one is next; otherwise a type use, locals and a body
 unfoldable pub func_defined : Production DefinedFunc
-func_defined = where_else begins_inline_import func_import func_inline
+func_defined = where_else at_inline_import func_import func_inline
 
 -- `func` head, and then the type and the definition of the function
 unfoldable pub func : Production FuncFieldTy

@@ -7,7 +7,8 @@ use Rattle.wat_types.specs.Storage.{GlobalTy, global_type_view, global_type}
 use Rattle.wat_types.specs.declared.storage.GlobalType.{GlobalType}
 use Rattle.wat_links.specs.Export.{inline_export_view}
 use Rattle.wat_links.specs.FieldHead.{FieldHeadTy, field_head, bare_head, head}
-use Rattle.wat_links.specs.Import.{inline_import_view, inline_import, begins_inline_import}
+use Rattle.wat_links.specs.Import.{inline_import_view, inline_import}
+use Rattle.wat_links.specs.Import.{at_inline_import}
 use Rattle.wat_expr.specs.Expression.{Expr, expression_view, bare_expression}
 use Rattle.wat_expr.specs.ExpressionProduction.{expression}
 use Rattle.wat_fields.specs.declared.global.Global.{Global}
@@ -61,7 +62,7 @@ bare_global g = bare_head g.head && bare_global_kind g.kind
 -- InlineImport GlobalType if an inline import is next; otherwise GlobalType Expression
 unfoldable pub global_defined : Production DefinedGlobal
 global_defined =
-    where_else begins_inline_import
+    where_else at_inline_import
     (made (λ v. (v.1, imported v.0)) (seq inline_import global_type))
     (made (λ v. (v.0, inline v.1)) (seq global_type expression))
 

@@ -1,12 +1,12 @@
 -- Locals of functions.
 use Rattle.std.specs.Prelude.{Bool, List, [], ◌∷◌, codes, map}
 use Rattle.wat_tokens.specs.Token.{Tok}
-use Rattle.wat_tokens.specs.Tests.{begins_word, more, second}
 use Rattle.wat_tokens.specs.Production.{Production}
 use Rattle.wat_tokens.specs.Parts.{seq, made, where_else, after_word}
 use Rattle.wat_tokens.specs.Many.{many}
 use Rattle.wat_tokens.specs.Groups.{paren}
-use Rattle.wat_types.specs.Label.{Label, no_label, label_view, label, begins_label}
+use Rattle.wat_tokens.specs.Test.{at_more, Test, run, second_word}
+use Rattle.wat_types.specs.Label.{Label, no_label, label_view, label, at_label}
 use Rattle.wat_types.specs.Value.{ValTy, val_view, val_type}
 use Rattle.wat_types.specs.Laws.Value.{val_type_consumes}
 use Rattle.wat_fields.specs.declared.local.Local.{Local}
@@ -43,11 +43,11 @@ plain_local = made (local_of no_label) val_type
 
 -- ValType*, to the end
 unfoldable pub plain_locals : Production (List LocalTy)
-plain_locals = many more plain_local val_type_consumes
+plain_locals = many at_more plain_local val_type_consumes
 
 -- id? name? ValType if an id or a name is next; otherwise ValType*, to the end
 unfoldable pub listed_locals : Production (List LocalTy)
-listed_locals = where_else begins_label labelled_local plain_locals
+listed_locals = where_else at_label labelled_local plain_locals
 
 -- `local id? name? ValType`, with an id or a name; or `local ValType*`, to the end
 unfoldable pub local_parser : Production (List LocalTy)
@@ -58,5 +58,8 @@ abbrev pub local_group : Production (List LocalTy)
 local_group = paren local_parser
 
 -- a further group has to follow: the second token is `local`, whatever the first token is
+abbrev pub at_local : Test
+at_local = second_word (codes "local")
+
 abbrev pub local_follows : List Tok → Bool
-local_follows t = second (begins_word (codes "local")) t
+local_follows t = run at_local t

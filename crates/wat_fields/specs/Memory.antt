@@ -1,17 +1,19 @@
 -- Memories.
-use Rattle.std.specs.Prelude.{ℕ, Bool, true, ◌&&◌, ◌||◌, List, codes, Option}
+use Rattle.std.specs.Prelude.{ℕ, Bool, true, ◌&&◌, List, codes, Option, refl}
 use Rattle.wat_tokens.specs.Token.{Tok}
-use Rattle.wat_tokens.specs.Tests.{begins_word, second, begins_lparen}
 use Rattle.wat_tokens.specs.Production.{Production}
 use Rattle.wat_tokens.specs.Parts.{seq, made, where_else, after_word}
 use Rattle.wat_tokens.specs.Groups.{group}
 use Rattle.wat_tokens.specs.Views.{no_items}
+use Rattle.wat_tokens.specs.Test.{Test, run, either_test, test_of, after, either, starts, at_lparen}
+use Rattle.wat_tokens.specs.Kind.{a_word}
 use Rattle.wat_types.specs.Label.{label_view}
 use Rattle.wat_types.specs.Limits.{is_64, pagesize_or_none, memory_type}
 use Rattle.wat_types.specs.declared.limits.MemoryType.{MemoryType}
 use Rattle.wat_links.specs.Export.{inline_export_view}
 use Rattle.wat_links.specs.FieldHead.{FieldHeadTy, field_head, bare_head, head}
-use Rattle.wat_links.specs.Import.{inline_import_view, inline_import, begins_inline_import}
+use Rattle.wat_links.specs.Import.{inline_import_view, inline_import}
+use Rattle.wat_links.specs.Import.{at_inline_import}
 use Rattle.wat_fields.specs.DataVal.{DataValTy, data_vals_view}
 use Rattle.wat_fields.specs.DataVals.{data_vals}
 use Rattle.wat_fields.specs.declared.memory.Memory.{Memory}
@@ -63,17 +65,21 @@ inline_memory =
     (seq is_64 (seq pagesize_or_none (group (codes "data") data_vals)))
 
 -- `(`, or `i32` or `i64` and then `(`
+abbrev pub at_inline_data : Test
+at_inline_data =
+    either_test at_lparen
+    (test_of (after (either (starts (a_word (codes "i32"))) (starts (a_word (codes "i64"))))
+    at_lparen.asks) refl)
+
 abbrev pub begins_inline_data : List Tok → Bool
-begins_inline_data t =
-    begins_lparen t || ((begins_word (codes "i32") t || begins_word (codes "i64") t)
-    && second begins_lparen t)
+begins_inline_data t = run at_inline_data t
 
 -- InlineImport MemoryType if an inline import is next; inline data if inline data is next;
 -- otherwise MemoryType
 unfoldable pub memory_kind : Production MemoryKindTy
 memory_kind =
-    where_else begins_inline_import (made (λ v. imported v.0 v.1) (seq inline_import memory_type))
-    (where_else begins_inline_data inline_memory (made normal memory_type))
+    where_else at_inline_import (made (λ v. imported v.0 v.1) (seq inline_import memory_type))
+    (where_else at_inline_data inline_memory (made normal memory_type))
 
 -- `memory` head, and a kind
 unfoldable pub memory : Production MemoryTy

@@ -1,14 +1,14 @@
 -- Numbers of data segments, as their bytes.
-use Rattle.std.specs.Prelude.{◌≤◌, ℕ, ℤ, Bool, ◌||◌, List, codes}
+use Rattle.std.specs.Prelude.{◌≤◌, ℕ, ℤ, Bool, List, codes}
 use Rattle.std.specs.Int.{Width, w8, w16, w32, w64, cast_unsigned, to_le_bytes}
 use Rattle.std.proofs.Common.{lit≤}
 use Rattle.wat_tokens.specs.Token.{Tok}
-use Rattle.wat_tokens.specs.Tests.{begins_word, begins_group, more}
 use Rattle.wat_tokens.specs.Production.{Production}
 use Rattle.wat_tokens.specs.Parts.{made, where_else, after_word}
 use Rattle.wat_tokens.specs.Joined.{joined}
 use Rattle.wat_tokens.specs.Integers.{signed}
 use Rattle.wat_tokens.specs.Floats.{none}
+use Rattle.wat_tokens.specs.Test.{at_word, at_more, Test, run, either_test, at_group}
 use Rattle.wat_fields.specs.VectorBytes.{vector_as_bytes}
 use Rattle.wat_fields.specs.Laws.Numbers.{vector_consumes}
 
@@ -30,43 +30,49 @@ float_as_bytes w = made (to_le_bytes w) none
 
 -- w g*, to the end, as all their bytes in order
 abbrev pub all_behind : List ℕ → (g : Production (List ℕ)) → 1 ≤ g.least → Production (List ℕ)
-all_behind w g consumes = after_word w (joined more g consumes)
+all_behind w g consumes = after_word w (joined at_more g consumes)
 
 -- `v128` V128Const* | `f32` | `f64`; no tokens spell a floating-point number
 unfoldable pub other_numbers : Production (List ℕ)
 other_numbers =
-    where_else (begins_word (codes "f32")) (all_behind (codes "f32") (float_as_bytes w32) (lit≤ tt))
-    (where_else (begins_word (codes "f64"))
+    where_else (at_word (codes "f32")) (all_behind (codes "f32") (float_as_bytes w32) (lit≤ tt))
+    (where_else (at_word (codes "f64"))
     (all_behind (codes "f64") (float_as_bytes w64) (lit≤ tt))
     (all_behind (codes "v128") vector_as_bytes vector_consumes))
 
 -- `i32` i32* | `i64` i64* | other numbers
 unfoldable pub wide_numbers : Production (List ℕ)
 wide_numbers =
-    where_else (begins_word (codes "i32"))
+    where_else (at_word (codes "i32"))
     (all_behind (codes "i32") (integer_as_bytes w32 32) (lit≤ tt))
-    (where_else (begins_word (codes "i64"))
+    (where_else (at_word (codes "i64"))
     (all_behind (codes "i64") (integer_as_bytes w64 64) (lit≤ tt))
     other_numbers)
 
 -- `i8` i8* | `i16` i16* | wide numbers
 unfoldable pub number_list : Production (List ℕ)
 number_list =
-    where_else (begins_word (codes "i8"))
+    where_else (at_word (codes "i8"))
     (all_behind (codes "i8") (integer_as_bytes w8 8) (lit≤ tt))
-    (where_else (begins_word (codes "i16"))
+    (where_else (at_word (codes "i16"))
     (all_behind (codes "i16") (integer_as_bytes w16 16) (lit≤ tt))
     wide_numbers)
 
 -- ---- the beginning of a group of numbers
 
+abbrev pub at_integers : Test
+at_integers =
+    either_test (either_test (either_test (at_group (codes "i8")) (at_group (codes "i16")))
+    (at_group (codes "i32"))) (at_group (codes "i64"))
+
 abbrev pub begins_integers : List Tok → Bool
-begins_integers t =
-    begins_group (codes "i8") t || begins_group (codes "i16") t || begins_group (codes "i32") t
-    || begins_group (codes "i64") t
+begins_integers t = run at_integers t
 
 -- `(`, and the keyword of a number type
+abbrev pub at_numbers : Test
+at_numbers =
+    either_test (either_test (either_test at_integers (at_group (codes "f32")))
+    (at_group (codes "f64"))) (at_group (codes "v128"))
+
 abbrev pub begins_numbers : List Tok → Bool
-begins_numbers t =
-    begins_integers t || begins_group (codes "f32") t || begins_group (codes "f64") t
-    || begins_group (codes "v128") t
+begins_numbers t = run at_numbers t

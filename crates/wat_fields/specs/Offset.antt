@@ -1,8 +1,8 @@
 -- The offset of an active data segment.
 use Rattle.std.specs.Prelude.{[], ◌∷◌, ◌++◌, codes}
-use Rattle.wat_tokens.specs.Tests.{begins_word}
 use Rattle.wat_tokens.specs.Production.{Production}
 use Rattle.wat_tokens.specs.Parts.{seq, made, where_else, after_word}
+use Rattle.wat_tokens.specs.Test.{at_word}
 use Rattle.wat_instr.specs.Instruction.{Instr, instruction}
 use Rattle.wat_expr.specs.Expression.{Expr}
 use Rattle.wat_expr.specs.ExpressionProduction.{expression}
@@ -18,4 +18,4 @@ head_last = made (λ v. head_behind v.0 v.1) (seq instruction expression)
 -- `offset` Expression if `offset` is next; otherwise the abbreviation, an instruction and items
 unfoldable pub offset_inside : Production Expr
 offset_inside =
-    where_else (begins_word (codes "offset")) (after_word (codes "offset") expression) head_last
+    where_else (at_word (codes "offset")) (after_word (codes "offset") expression) head_last

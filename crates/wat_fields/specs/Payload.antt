@@ -1,14 +1,14 @@
 -- The elements of an element segment.
 use Rattle.std.specs.Prelude.{Bool, true, false, if◌then◌else◌, ◌&&◌, List, [], ◌∷◌, codes, map}
 use Rattle.std.proofs.Common.{lit≤}
-use Rattle.wat_tokens.specs.Tests.{begins_word, more, begins_lparen}
 use Rattle.wat_tokens.specs.Production.{Production}
 use Rattle.wat_tokens.specs.Parts.{seq, made, where_else, after_word}
 use Rattle.wat_tokens.specs.Many.{many}
 use Rattle.wat_tokens.specs.Index.{Idx, index_view, index}
 use Rattle.wat_tokens.specs.Views.{no_items}
+use Rattle.wat_tokens.specs.Test.{at_word, at_lparen, at_more}
 use Rattle.wat_types.specs.Heap.{HeapTy, abstract_}
-use Rattle.wat_types.specs.Reference.{RefTy, ref_view, ref_type, begins_ref}
+use Rattle.wat_types.specs.Reference.{RefTy, ref_view, ref_type, at_ref}
 use Rattle.wat_types.specs.declared.heap.AbstractHeapType.TheVariants as heap_word
 use Rattle.wat_mnemonics.specs.declared.op.Op.TheVariants as word
 use Rattle.wat_mnemonics.specs.declared.indexed.IndexedOp.TheVariants as op
@@ -40,13 +40,13 @@ bare_payload (exprs t v) = no_items v
 
 -- item*, to the end
 unfoldable pub item_list : Production (List Expr)
-item_list = many more item item_consumes
+item_list = many at_more item item_consumes
 
 -- ---- indices
 
 -- idx*, to the end
 unfoldable pub index_list : Production (List Idx)
-index_list = many more index (lit≤ tt)
+index_list = many at_more index (lit≤ tt)
 
 -- the one instruction `ref.func` of an index
 abbrev pub ref_func_of : Idx → Expr
@@ -76,7 +76,7 @@ of_type t (by_item es) = exprs t es
 
 -- items if `(` is next, otherwise indices
 unfoldable pub listed : Production ListedTy
-listed = where_else begins_lparen (made by_item item_list) (made by_index index_list)
+listed = where_else at_lparen (made by_item item_list) (made by_index index_list)
 
 -- ---- in a segment
 
@@ -86,11 +86,11 @@ typed_elems = made (λ v. exprs v.0 v.1) (seq ref_type item_list)
 
 -- `func` indices if `func` is next; otherwise RefType items
 unfoldable pub payload : Production PayloadTy
-payload = where_else (begins_word (codes "func"))
+payload = where_else (at_word (codes "func"))
     (made indices (after_word (codes "func") index_list)) typed_elems
 
 -- `func` indices if `func` is next; RefType items if a type is next; otherwise indices
 unfoldable pub payload_or_indices : Production PayloadTy
 payload_or_indices =
-    where_else (begins_word (codes "func")) (made indices (after_word (codes "func") index_list))
-    (where_else begins_ref typed_elems (made indices index_list))
+    where_else (at_word (codes "func")) (made indices (after_word (codes "func") index_list))
+    (where_else at_ref typed_elems (made indices index_list))

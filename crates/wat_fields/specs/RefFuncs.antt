@@ -1,10 +1,10 @@
 -- Indices that are read as expressions of one `ref.func` each. Only contracts of private functions
 -- use these definitions.
 use Rattle.std.specs.Prelude.{List}
-use Rattle.wat_tokens.specs.Tests.{more}
 use Rattle.wat_tokens.specs.Production.{Production}
 use Rattle.wat_tokens.specs.Parts.{made}
 use Rattle.wat_tokens.specs.Many.{many}
+use Rattle.wat_tokens.specs.Test.{at_more}
 use Rattle.wat_types.specs.Reference.{RefTy}
 use Rattle.wat_expr.specs.Expression.{Expr}
 use Rattle.wat_fields.specs.Payload.{PayloadTy, indices, exprs, by_index, of_type, index_list}
@@ -13,7 +13,7 @@ use Rattle.wat_fields.specs.Laws.RefFuncs.{ref_func_consumes}
 
 -- idx*, to the end, each as `ref.func` of that index
 unfoldable pub ref_funcs : Production (List Expr)
-ref_funcs = many more ref_func ref_func_consumes
+ref_funcs = many at_more ref_func ref_func_consumes
 
 -- indices, to the end, as a payload of the type
 unfoldable pub indices_of : RefTy → Production PayloadTy

@@ -1,14 +1,15 @@
 -- Tables.
-use Rattle.std.specs.Prelude.{ℕ, Bool, true, ◌&&◌, ◌||◌, List, codes, Option}
+use Rattle.std.specs.Prelude.{ℕ, Bool, true, ◌&&◌, List, codes, Option}
 use Rattle.wat_tokens.specs.Token.{Tok}
-use Rattle.wat_tokens.specs.Tests.{begins_word, begins_integer, more, second}
 use Rattle.wat_tokens.specs.Production.{Production}
 use Rattle.wat_tokens.specs.Parts.{seq, made, where_else, opt, flag, after_word}
 use Rattle.wat_tokens.specs.Groups.{group}
 use Rattle.wat_tokens.specs.Views.{option_view, bare_option}
+use Rattle.wat_tokens.specs.Test.{at_more, Test, run, either_test, test_of, after, at_word}
+use Rattle.wat_tokens.specs.Test.{at_integer}
 use Rattle.wat_types.specs.Label.{label_view}
 use Rattle.wat_types.specs.Limits.{is_64, TableTy, table_type_view, table_type}
-use Rattle.wat_types.specs.Reference.{RefTy, ref_view, ref_type, begins_ref}
+use Rattle.wat_types.specs.Reference.{RefTy, ref_view, ref_type, at_ref}
 use Rattle.wat_links.specs.Export.{inline_export_view}
 use Rattle.wat_links.specs.FieldHead.{FieldHeadTy, field_head, bare_head, head}
 use Rattle.wat_links.specs.Import.{inline_import_view, inline_import}
@@ -59,17 +60,27 @@ bare_table t = bare_head t.head && bare_table_kind t.kind
 -- ---- the grammar
 
 -- `shared`, `i32` or `i64`
+abbrev pub at_prefix : Test
+at_prefix =
+    either_test (at_word (codes "shared"))
+    (either_test (at_word (codes "i32")) (at_word (codes "i64")))
+
 abbrev pub begins_prefix : List Tok → Bool
-begins_prefix t =
-    begins_word (codes "shared") t || (begins_word (codes "i32") t || begins_word (codes "i64") t)
+begins_prefix t = run at_prefix t
 
 -- a RefType, or one of the three words and then a RefType
+abbrev pub at_inline_elems : Test
+at_inline_elems = either_test at_ref (test_of (after at_prefix.asks at_ref.asks) at_ref.calm)
+
 abbrev pub begins_inline_elems : List Tok → Bool
-begins_inline_elems t = begins_ref t || (begins_prefix t && second begins_ref t)
+begins_inline_elems t = run at_inline_elems t
 
 -- one of the three words, or an Integer
+abbrev pub at_normal : Test
+at_normal = either_test at_prefix at_integer
+
 abbrev pub begins_normal : List Tok → Bool
-begins_normal t = begins_prefix t || begins_integer t
+begins_normal t = run at_normal t
 
 abbrev pub inline_of : Bool × (Bool × (RefTy × ListedTy)) → TableKindTy
 inline_of v = inline v.1.1.0 v.1.0 v.0 (of_type v.1.1.0 v.1.1.1)
@@ -82,7 +93,7 @@ inline_table =
 
 -- TableType, and then an Expression if the group goes on
 unfoldable pub normal_table : Production TableKindTy
-normal_table = made (λ v. normal v.0 v.1) (seq table_type (opt more expression))
+normal_table = made (λ v. normal v.0 v.1) (seq table_type (opt at_more expression))
 
 -- InlineImport TableType
 unfoldable pub imported_table : Production TableKindTy
@@ -92,8 +103,8 @@ imported_table = made (λ v. imported v.0 v.1) (seq inline_import table_type)
 -- if one of these words or an Integer is next; otherwise an import
 unfoldable pub table_kind : Production TableKindTy
 table_kind =
-    where_else begins_inline_elems inline_table
-    (where_else begins_normal normal_table imported_table)
+    where_else at_inline_elems inline_table
+    (where_else at_normal normal_table imported_table)
 
 -- `table` head, and then a kind
 unfoldable pub table : Production TableFieldTy

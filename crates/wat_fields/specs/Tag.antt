@@ -9,7 +9,8 @@ use Rattle.wat_types.specs.Tag.{tag_type_view, tag_type}
 use Rattle.wat_types.specs.Use.{UseTy, bare_use}
 use Rattle.wat_links.specs.Export.{inline_export_view}
 use Rattle.wat_links.specs.FieldHead.{FieldHeadTy, field_head, bare_head, head}
-use Rattle.wat_links.specs.Import.{inline_import_view, inline_import, begins_inline_import}
+use Rattle.wat_links.specs.Import.{inline_import_view, inline_import}
+use Rattle.wat_links.specs.Import.{at_inline_import}
 use Rattle.wat_fields.specs.declared.tag.Tag.{Tag}
 use Rattle.wat_fields.specs.declared.tag.TagKind.{TagKind}
 use Rattle.wat_fields.specs.declared.tag.TagKind.TheVariants as code
@@ -44,4 +45,4 @@ bare_tag t = bare_head t.head && bare_use bare_function t.ty
 unfoldable pub tag : Production TagTy
 tag = after_word (codes "tag")
     (made (λ v. tag_of v.0 v.1.0 v.1.1)
-    (seq head (seq (opt begins_inline_import inline_import) tag_type)))
+    (seq head (seq (opt at_inline_import inline_import) tag_type)))

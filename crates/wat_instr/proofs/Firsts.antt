@@ -24,7 +24,8 @@ use Rattle.wat_operands.specs.Aggregates.{array_of_length}
 use Rattle.wat_operands.specs.BranchTable.{br_table}
 use Rattle.wat_operands.specs.Lanes.{lane_in, lane_arg, lane_access}
 use Rattle.wat_operands.specs.Memory.{target, begins_with, offset_or_0, align, align_or, mem_arg, atomic_mem_arg}
-use Rattle.wat_operands.specs.Align.{past_front, number_behind, field}
+use Rattle.wat_tokens.specs.Kind.{past_front}
+use Rattle.wat_operands.specs.Align.{number_behind, field}
 use Rattle.wat_operands.specs.Ordering.{ordering, begins_ordering, ordered}
 use Rattle.wat_operands.specs.Tables.{index_or_0, index_pair, init, copy}
 use Rattle.wat_operands.specs.Vector.{two, twice, four, eight, sixteen, float_const, wide_const, v128_const, shuffle}
@@ -34,7 +35,7 @@ use Rattle.wat_operands.specs.Casts.{cast_branch}
 use Rattle.wat_operands.specs.Catches.{begins_catch, try_table}
 use Rattle.wat_operands.specs.CatchClause.{catch_clause}
 use Rattle.wat_operands.specs.Handlers.{resume_table, resume, resume_throw}
-use Rattle.wat_operands.specs.Select.{result_follows, select_types}
+use Rattle.wat_operands.specs.Select.{at_result, result_follows, select_types}
 use Rattle.wat_operands.specs.ResultGroup.{result_group}
 use Rattle.wat_operands.specs.Laws.Select.{result_group_consumes}
 use Rattle.wat_mnemonics.specs.Access.{access_align, atomic_access_align, rmw_access_align, lane_access_align}
@@ -44,7 +45,10 @@ use Rattle.wat_mnemonics.specs.declared.op.Op.TheVariants as ops
 use Rattle.wat_instr.specs.Follows.{MayFollow}
 use Rattle.wat_instr.specs.Operand.{operand}
 use Rattle.wat_instr.specs.Instruction.{Instr, instruction}
-use Rattle.wat_instr.proofs.Words.{may_follow}
+use Rattle.wat_tokens.specs.Kind.{a_word}
+use Rattle.wat_tokens.specs.Test.{starts}
+use Rattle.wat_instr.proofs.Following.{is_off}
+use Rattle.wat_instr.proofs.Words.{it_may_follow}
 
 -- the first token is not one of the three keywords
 record Fresh (c : List Tok) : Type 0 where
@@ -264,7 +268,7 @@ cast_fresh v c r s = index_first (seq ref_type ref_type) s.0 c r s.1
 select_fresh : BeginsFresh select_types
 unfolding select_types
 select_fresh =
-    maybe result_follows (joined result_follows result_group result_group_consumes) (λ v c r s. some result_follows result_group (λ v c r s. group s.1) s.0 c r s.1)
+    maybe result_follows (joined at_result result_group result_group_consumes) (λ v c r s. some result_follows result_group (λ v c r s. group s.1) s.0 c r s.1)
 
 try_fresh : BeginsFresh try_table
 unfolding try_table catch_clause
@@ -341,6 +345,6 @@ unfolding instruction
 goes_before v c r s h m =
     let d = h.2 in
     let is : c ≡ Keyword (op_word h.0) ∷ d = h.3 ∙ ap (λ (u : List Tok). u ++ d) h.4 in
-    let f = may_follow s m in
-    let b = both d s (operand_fresh h.0 h.5.0 d r h.5.1) (fresh f.not_type f.not_param f.not_result) in
+    let f = is_off s (it_may_follow s m) in
+    let b = both d s (operand_fresh h.0 h.5.0 d r h.5.1) (fresh (f (starts (a_word (codes "type"))) refl) (f (starts (a_word (codes "param"))) refl) (f (starts (a_word (codes "result"))) refl)) in
     subst MayFollow (sym (ap (λ (u : List Tok). u ++ s) is)) (inl (h.0, d ++ s, refl), (b.not_type, b.not_param, b.not_result))

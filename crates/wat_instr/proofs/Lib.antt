@@ -1,7 +1,7 @@
 pub mod Blocks
 pub mod Firsts
-pub mod Rests
+pub mod Following
 pub mod Operands
 pub mod RowFamilies
-pub mod Steady
+pub mod Standing
 pub mod Words

@@ -3,7 +3,7 @@ use Rattle.std.specs.Prelude.{ℕ, ℤ, Bool, true, false, not, ◌||◌, List, 
 use Rattle.wat_tokens.specs.Production.{Production}
 use Rattle.wat_tokens.specs.Parts.{made, opt}
 use Rattle.wat_tokens.specs.Index.{Idx, identifier, index}
-use Rattle.wat_tokens.specs.Tests.{begins_id}
+use Rattle.wat_tokens.specs.Test.{at_id}
 use Rattle.wat_tokens.specs.Integers.{signed}
 use Rattle.wat_tokens.specs.Floats.{none}
 use Rattle.wat_types.specs.Heap.{HeapTy, heap_type}
@@ -16,7 +16,7 @@ use Rattle.wat_operands.specs.BranchTable.{br_table}
 use Rattle.wat_operands.specs.Lanes.{LaneAccessTy, lane_arg}
 use Rattle.wat_operands.specs.Lanes as lanes
 use Rattle.wat_operands.specs.Memory.{MemArgTy, mem_arg, atomic_mem_arg}
-use Rattle.wat_operands.specs.Ordering.{ordering, begins_ordering, ordered}
+use Rattle.wat_operands.specs.Ordering.{ordering, at_ordering, ordered}
 use Rattle.wat_operands.specs.Tables.{index_or_0, index_pair, init, copy}
 use Rattle.wat_operands.specs.Vector.{v128_const, shuffle}
 use Rattle.wat_operands.specs.declared.lanes.LaneArg.{LaneArg}
@@ -125,7 +125,7 @@ bare_operand (thrown x) = false
 -- the production of the operand of an instruction, as 50 cases
 unfoldable pub operand : Op → Production Operand
 operand (ops.Block op) = made block block_type
-operand (ops.Label op) = made label (opt begins_id identifier)
+operand (ops.Label op) = made label (opt at_id identifier)
 operand (ops.Scalar op) = blank nothing
 operand (ops.Indexed op) = made one_index index
 operand (ops.CallIndirect op) = made call call_indirect
@@ -162,7 +162,7 @@ operand ops.i32_const = made integer (signed 32)
 operand ops.i64_const = made integer (signed 64)
 operand ops.f32_const = made float none
 operand ops.f64_const = made float none
-operand ops.atomic_fence = made fence (opt begins_ordering ordering)
+operand ops.atomic_fence = made fence (opt at_ordering ordering)
 operand ops.v128_const = made vector v128_const
 operand ops.i8x16_shuffle = made shuffled shuffle
 operand ops.try_table = made caught try_table

@@ -1,10 +1,11 @@
 -- Custom sections.
-use Rattle.std.specs.Prelude.{ℕ, Bool, false, List, ◌∷◌, codes}
-use Rattle.std.specs.Str.{bytes_eq}
-use Rattle.wat_tokens.specs.Token.{Tok, Annotation}
+use Rattle.std.specs.Prelude.{ℕ, Bool, List, codes}
+use Rattle.wat_tokens.specs.Token.{Tok}
 use Rattle.wat_tokens.specs.Production.{Production}
 use Rattle.wat_tokens.specs.Parts.{made, where_else}
 use Rattle.wat_tokens.specs.Views.{no_items}
+use Rattle.wat_tokens.specs.Test.{Test, run, at_kind}
+use Rattle.wat_tokens.specs.Kind.{an_annotation}
 use Rattle.wat_links.specs.Raw.{RawTy, raw_view, bare_raw, raw_custom}
 use Rattle.wat_links.specs.Producers.{producers_view, producers}
 use Rattle.wat_links.specs.ProducerEntry.{Versioned}
@@ -46,13 +47,15 @@ custom_name (code.Producers p) = codes "producers"
 custom_name (code.Dylink0 d) = codes "dylink.0"
 
 -- the next token is the annotation with the given name
+abbrev pub at_annotated : List ℕ → Test
+at_annotated name = at_kind (an_annotation name)
+
 abbrev pub begins_annotated : List ℕ → List Tok → Bool
-begins_annotated name (Annotation n ∷ r) = bytes_eq n name
-begins_annotated name _ = false
+begins_annotated name t = run (at_annotated name) t
 
 -- @producers .. | @dylink.0 .. | @custom ..
 unfoldable pub custom : Production CustomTy
 custom =
-    where_else (begins_annotated (codes "producers")) (made produced producers)
-    (where_else (begins_annotated (codes "dylink.0")) (made linked dylink)
+    where_else (at_annotated (codes "producers")) (made produced producers)
+    (where_else (at_annotated (codes "dylink.0")) (made linked dylink)
     (made raw raw_custom))

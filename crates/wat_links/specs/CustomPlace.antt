@@ -1,8 +1,9 @@
 -- Places of custom sections.
 use Rattle.std.specs.Prelude.{ℕ, List, [], ◌∷◌, codes, refl}
-use Rattle.wat_tokens.specs.Tests.{word_in, begins_word}
+use Rattle.wat_tokens.specs.Tests.{word_in}
 use Rattle.wat_tokens.specs.Production.{Production}
 use Rattle.wat_tokens.specs.Parts.{one, word, made, where_else, after_word}
+use Rattle.wat_tokens.specs.Test.{at_word}
 use Rattle.wat_links.specs.declared.custom_place.CustomPlace.{CustomPlace}
 use Rattle.wat_links.specs.declared.custom_place.CustomPlace.TheVariants.{BeforeFirst, Before, After}
 use Rattle.wat_links.specs.declared.custom_place.CustomPlace.TheVariants.{AfterLast}
@@ -25,15 +26,15 @@ section = one (word_in anchor_words) (refl, refl)
 -- `before first` | `before` section
 unfoldable pub before : Production CustomPlace
 before = after_word (codes "before")
-    (where_else (begins_word (codes "first")) (made (λ _. BeforeFirst) (word (codes "first")))
+    (where_else (at_word (codes "first")) (made (λ _. BeforeFirst) (word (codes "first")))
     (made Before section))
 
 -- `after last` | `after` section
 unfoldable pub after : Production CustomPlace
 after = after_word (codes "after")
-    (where_else (begins_word (codes "last")) (made (λ _. AfterLast) (word (codes "last")))
+    (where_else (at_word (codes "last")) (made (λ _. AfterLast) (word (codes "last")))
     (made After section))
 
 -- `before first` | `before` section | `after last` | `after` section
 unfoldable pub custom_place : Production CustomPlace
-custom_place = where_else (begins_word (codes "before")) before after
+custom_place = where_else (at_word (codes "before")) before after

@@ -3,7 +3,6 @@ use Rattle.std.specs.Prelude.{◌≤◌, ℕ, Bool, true, List, ◌∷◌, codes
 use Rattle.std.specs.Borrow.{Bor}
 use Rattle.std.proofs.Common.{lit≤}
 use Rattle.wat_tokens.specs.Token.{Tok}
-use Rattle.wat_tokens.specs.Tests.{begins_group, begins_word, second, more}
 use Rattle.wat_tokens.specs.Production.{Production}
 use Rattle.wat_tokens.specs.Parts.{seq, made, where_else, opt}
 use Rattle.wat_tokens.specs.Groups.{group}
@@ -11,6 +10,7 @@ use Rattle.wat_tokens.specs.Many.{many}
 use Rattle.wat_tokens.specs.Integers.{unsigned}
 use Rattle.wat_tokens.specs.Strings.{text}
 use Rattle.wat_tokens.specs.Views.{no_items}
+use Rattle.wat_tokens.specs.Test.{at_group, second_word, at_more, Test, run}
 use Rattle.wat_links.specs.declared.dylink.Dylink0.{Dylink0}
 use Rattle.wat_links.specs.declared.dylink.Dylink0Subsection.{Dylink0Subsection}
 use Rattle.wat_links.specs.declared.dylink.Dylink0Subsection.TheVariants as code
@@ -70,7 +70,7 @@ no_size = (0, 0)
 -- ( word size alignment ) if the second token is the word; else 0 and 0
 unfoldable pub sizes : List ℕ → Production (ℕ × ℕ)
 sizes w = made (λ o. unwrap_or o no_size)
-    (opt (second (begins_word w)) (group w (seq (unsigned 32) (unsigned 32))))
+    (opt (second_word w) (group w (seq (unsigned 32) (unsigned 32))))
 
 -- ( mem-info ( memory u32 u32 )? ( table u32 u32 )? )
 unfoldable pub mem_info_entry : Production SubsectionTy
@@ -80,37 +80,43 @@ mem_info_entry =
 
 -- ( word name* )
 unfoldable pub names_entry : List ℕ → Production (List (List ℕ))
-names_entry w = group w (many more text (lit≤ tt))
+names_entry w = group w (many at_more text (lit≤ tt))
 
 -- ( mem-info .. ) | ( needed name* ) | ( runtime-path name* ) | ( target-arch name )
 unfoldable pub lone_entry : Production SubsectionTy
 lone_entry =
-    where_else (begins_group (codes "mem-info")) mem_info_entry
-    (where_else (begins_group (codes "needed")) (made needed (names_entry (codes "needed")))
-    (where_else (begins_group (codes "runtime-path"))
+    where_else (at_group (codes "mem-info")) mem_info_entry
+    (where_else (at_group (codes "needed")) (made needed (names_entry (codes "needed")))
+    (where_else (at_group (codes "runtime-path"))
     (made runtime_path (names_entry (codes "runtime-path")))
     (made target_arch (group (codes "target-arch") text))))
 
 -- ---- entries of exports and of imports
 
+abbrev pub at_export : Test
+at_export = at_group (codes "export-info")
+
 abbrev pub begins_export : List Tok → Bool
-begins_export t = begins_group (codes "export-info") t
+begins_export t = run at_export t
+
+abbrev pub at_import : Test
+at_import = at_group (codes "import-info")
 
 abbrev pub begins_import : List Tok → Bool
-begins_import t = begins_group (codes "import-info") t
+begins_import t = run at_import t
 
 -- an entry, and all entries of the same kind directly after it
-abbrev pub run : {A : Type 0} → (List Tok → Bool) → (g : Production A) → 1 ≤ g.least
+abbrev pub entry_run : {A : Type 0} → Test → (g : Production A) → 1 ≤ g.least
     → Production (List A)
-run begins g consumes = made (λ v. v.0 ∷ v.1) (seq g (many begins g consumes))
+entry_run test g consumes = made (λ v. v.0 ∷ v.1) (seq g (many test g consumes))
 
 -- ---- subsections
 
 -- a run of export entries, a run of import entries, or one other entry
 unfoldable pub subsection : Production SubsectionTy
 subsection =
-    where_else begins_export (made export_info
-    (run begins_export export_entry export_entry_consumes))
-    (where_else begins_import (made import_info
-    (run begins_import import_entry import_entry_consumes))
+    where_else at_export (made export_info
+    (entry_run at_export export_entry export_entry_consumes))
+    (where_else at_import (made import_info
+    (entry_run at_import import_entry import_entry_consumes))
     lone_entry)

@@ -2,8 +2,8 @@
 use Rattle.std.specs.Prelude.{ℕ, List, [], ◌∷◌, map, ⊤}
 use Rattle.wat_tokens.specs.Production.{Production}
 use Rattle.wat_tokens.specs.Parts.{made, where_else}
-use Rattle.wat_links.specs.Dylink.{SubsectionTy, export_info, import_info, begins_export}
-use Rattle.wat_links.specs.Dylink.{begins_import, lone_entry}
+use Rattle.wat_links.specs.Dylink.{SubsectionTy, export_info, import_info, at_export}
+use Rattle.wat_links.specs.Dylink.{at_import, lone_entry}
 use Rattle.wat_links.specs.DylinkEntries.{export_entry, import_entry}
 
 -- an export entry, an import entry, or another entry
@@ -14,8 +14,8 @@ pub data EntryTy : Type 0 where
 
 -- ( export-info .. ) | ( import-info .. ) | another entry
 unfoldable pub entry : Production EntryTy
-entry = where_else begins_export (made of_export export_entry)
-    (where_else begins_import (made of_import import_entry) (made other lone_entry))
+entry = where_else at_export (made of_export export_entry)
+    (where_else at_import (made of_import import_entry) (made other lone_entry))
 
 -- the entries that a subsection holds
 abbrev pub entries_in : SubsectionTy → List EntryTy

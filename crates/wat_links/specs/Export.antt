@@ -1,8 +1,6 @@
 -- Exports.
-use Rattle.std.specs.Prelude.{ℕ, Bool, false, List, [], ◌∷◌, codes, map, refl}
-use Rattle.std.specs.Str.{bytes_eq}
-use Rattle.wat_tokens.specs.Token.{Tok, LParen, RParen, Keyword, String}
-use Rattle.wat_tokens.specs.Begin.{begins_one_of}
+use Rattle.std.specs.Prelude.{ℕ, Bool, List, [], ◌∷◌, codes, map, refl}
+use Rattle.wat_tokens.specs.Token.{Tok}
 use Rattle.wat_tokens.specs.Tests.{word_in}
 use Rattle.wat_tokens.specs.Production.{Production}
 use Rattle.wat_tokens.specs.Parts.{one, seq, made, after_word}
@@ -10,6 +8,8 @@ use Rattle.wat_tokens.specs.Groups.{paren}
 use Rattle.wat_tokens.specs.Many.{many}
 use Rattle.wat_tokens.specs.Index.{Idx, index_view, index}
 use Rattle.wat_tokens.specs.Strings.{text}
+use Rattle.wat_tokens.specs.Test.{Test, run, at_listed, in_order, test_of, starts}
+use Rattle.wat_tokens.specs.Kind.{a_lparen, a_word, a_string, a_rparen}
 use Rattle.wat_links.specs.Item.{SigTy, sig_view, bare_sig, item_sig}
 use Rattle.wat_links.specs.declared.export.Export.{Export}
 use Rattle.wat_links.specs.declared.export.ExportKind.{ExportKind}
@@ -31,8 +31,11 @@ unfoldable pub export_kind : Production ExportKind
 export_kind = one (word_in kind_words) (refl, refl)
 
 -- one of the keywords
-unfoldable pub begins_kind : List Tok → Bool
-begins_kind t = begins_one_of (word_in kind_words) t
+unfoldable pub at_export_kind : Test
+at_export_kind = at_listed kind_words
+
+abbrev pub begins_kind : List Tok → Bool
+begins_kind t = run at_export_kind t
 
 -- ---- exports
 
@@ -75,10 +78,13 @@ abbrev pub inline_export_view : InlineExport → List (List ℕ)
 inline_export_view e = map (λ n. n.now) e.names.items
 
 -- `(`, `export`, a string, `)`
+abbrev pub at_inline_export : Test
+at_inline_export =
+    test_of (in_order (a_lparen ∷ a_word (codes "export") ∷ a_string ∷ []) (starts a_rparen)) refl
+
 abbrev pub begins_inline_export : List Tok → Bool
-begins_inline_export (LParen ∷ Keyword k ∷ String s ∷ RParen ∷ r) = bytes_eq k (codes "export")
-begins_inline_export _ = false
+begins_inline_export t = run at_inline_export t
 
 -- ( export name )*
 unfoldable pub inline_export : Production (List (List ℕ))
-inline_export = many begins_inline_export inline_name inline_name_consumes
+inline_export = many at_inline_export inline_name inline_name_consumes

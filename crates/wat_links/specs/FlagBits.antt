@@ -1,9 +1,10 @@
 -- One flag of a symbol.
 use Rattle.std.specs.Prelude.{ℕ, List, [], ◌∷◌, codes, refl}
-use Rattle.wat_tokens.specs.Tests.{word_in, begins_integer}
+use Rattle.wat_tokens.specs.Tests.{word_in}
 use Rattle.wat_tokens.specs.Integers.{unsigned}
 use Rattle.wat_tokens.specs.Production.{Production}
 use Rattle.wat_tokens.specs.Parts.{one, made, where_else}
+use Rattle.wat_tokens.specs.Test.{at_integer}
 use Rattle.wat_links.specs.declared.flags.SymbolFlag.{SymbolFlag}
 
 abbrev pub flag_with : ℕ → SymbolFlag
@@ -21,4 +22,4 @@ flag_words =
 -- u32 | keyword of a flag, as its bit
 unfoldable pub flag_bits : Production ℕ
 flag_bits =
-    where_else begins_integer (unsigned 32) (made (λ f. f.0) (one (word_in flag_words) (refl, refl)))
+    where_else at_integer (unsigned 32) (made (λ f. f.0) (one (word_in flag_words) (refl, refl)))

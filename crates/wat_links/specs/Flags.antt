@@ -1,16 +1,16 @@
 -- Flags of symbols in the `dylink.0` section.
 use Rattle.std.specs.Prelude.{ℕ, List, fold}
 use Rattle.std.specs.Int.Bits.{bit_or}
-use Rattle.wat_tokens.specs.Tests.{more}
 use Rattle.wat_tokens.specs.Production.{Production}
 use Rattle.wat_tokens.specs.Parts.{made}
 use Rattle.wat_tokens.specs.Many.{many}
+use Rattle.wat_tokens.specs.Test.{at_more}
 use Rattle.wat_links.specs.FlagBits.{flag_bits}
 use Rattle.wat_links.specs.Laws.Flags.{flag_bits_consumes}
 
 -- ( u32 | keyword of a flag )*, to the end of the group
 unfoldable pub flag_list : Production (List ℕ)
-flag_list = many more flag_bits flag_bits_consumes
+flag_list = many at_more flag_bits flag_bits_consumes
 
 -- the bits of all flags, joined by bitwise or
 unfoldable pub symbol_flags : Production ℕ

@@ -1,16 +1,18 @@
 -- Imports.
-use Rattle.std.specs.Prelude.{◌≡◌, ℕ, Bool, false, ◌&&◌, ◌||◌, List, [], ◌∷◌, codes, map, is_none}
-use Rattle.std.specs.Prelude.{replicate, length, ⊤}
+use Rattle.std.specs.Prelude.{◌≡◌, ℕ, Bool, ◌&&◌, List, [], ◌∷◌, codes, map, is_none}
+use Rattle.std.specs.Prelude.{replicate, length, ⊤, refl}
 use Rattle.std.specs.Borrow.{Bor}
-use Rattle.std.specs.Str.{bytes_eq}
-use Rattle.wat_tokens.specs.Token.{Tok, LParen, RParen, Keyword, String}
-use Rattle.wat_tokens.specs.Tests.{begins_word, second, ends, more, begins_lparen}
+use Rattle.wat_tokens.specs.Token.{Tok}
 use Rattle.wat_tokens.specs.Production.{Production}
 use Rattle.wat_tokens.specs.Parts.{seq, made, made_where, where_else}
 use Rattle.wat_tokens.specs.Groups.{paren, group}
 use Rattle.wat_tokens.specs.Many.{many}
 use Rattle.wat_tokens.specs.Strings.{text}
 use Rattle.wat_tokens.specs.Views.{no_items}
+use Rattle.wat_tokens.specs.Test.{at_lparen, Test, Question, answer, run, starts}
+use Rattle.wat_tokens.specs.Test.{either_test, test_of, at_more, at_ends, second_word}
+use Rattle.wat_tokens.specs.Test.{in_order}
+use Rattle.wat_tokens.specs.Kind.{a_word, a_lparen, a_string, a_rparen}
 use Rattle.wat_links.specs.Item.{SigTy, sig_view, bare_sig, item_sig, SameSig}
 use Rattle.wat_links.specs.declared.item.ItemSig.{ItemSig}
 use Rattle.wat_links.specs.declared.import.ImportGroup1ItemOf.{ImportGroup1ItemOf}
@@ -73,8 +75,11 @@ bare_imports i = bare_items i.items
 -- ---- the grammar
 
 -- an item has to follow: the second token is `item`, for any first token
+abbrev pub at_item : Test
+at_item = second_word (codes "item")
+
 abbrev pub item_follows : List Tok → Bool
-item_follows t = second (begins_word (codes "item")) t
+item_follows t = run at_item t
 
 -- the signature shared by a group, without an identifier
 unfoldable pub shared_sig : Production SigTy
@@ -86,11 +91,11 @@ single_item = made (λ v. single v.0 v.1) (seq text sig_group)
 
 -- ( item name ( ItemSig ) )*, as long as an item has to follow
 unfoldable pub typed_list : Production (List (List ℕ × SigTy))
-typed_list = many item_follows typed_item typed_item_consumes
+typed_list = many at_item typed_item typed_item_consumes
 
 -- ( item name )*, as long as an item has to follow
 unfoldable pub named_list : Production (List (List ℕ))
-named_list = many item_follows named_item named_item_consumes
+named_list = many at_item named_item named_item_consumes
 
 unfoldable pub typed_items : Production ItemsTy
 typed_items = made group1 typed_list
@@ -100,18 +105,23 @@ unfoldable pub named_items : Production ItemsTy
 named_items = made (λ v. group2 v.1 v.0) (seq named_list shared_sig)
 
 -- `(`, `item`, a string, and then a token other than `)`
+abbrev pub opening_typed : Question
+opening_typed = in_order (a_lparen ∷ a_word (codes "item") ∷ a_string ∷ []) at_more.asks
+
 abbrev pub opens_typed : List Tok → Bool
-opens_typed (LParen ∷ Keyword k ∷ String s ∷ r) = bytes_eq k (codes "item") && more r
-opens_typed _ = false
+opens_typed t = answer opening_typed t
 
 -- the group or the text ends, or the next item has more than a name
+abbrev pub at_typed : Test
+at_typed = either_test at_ends (test_of opening_typed refl)
+
 abbrev pub typed : List Tok → Bool
-typed t = ends t || opens_typed t
+typed t = run at_typed t
 
 -- items with signatures if the group or the text ends or the next item has more than a name; items
 -- without signatures and their shared signature if another `(` is next; else a single item
 unfoldable pub import_choice : Production ItemsTy
-import_choice = where_else typed typed_items (where_else begins_lparen named_items single_item)
+import_choice = where_else at_typed typed_items (where_else at_lparen named_items single_item)
 
 -- ---- signatures by number
 
@@ -164,7 +174,10 @@ unfoldable pub inline_import : Production (List ℕ × List ℕ)
 inline_import = group (codes "import") (seq text text)
 
 -- `(`, `import`, a string, a string, `)`
+abbrev pub at_inline_import : Test
+at_inline_import =
+    test_of (in_order (a_lparen ∷ a_word (codes "import") ∷ a_string ∷ a_string ∷ [])
+    (starts a_rparen)) refl
+
 abbrev pub begins_inline_import : List Tok → Bool
-begins_inline_import (LParen ∷ Keyword k ∷ String s ∷ String s2 ∷ RParen ∷ r) =
-    bytes_eq k (codes "import")
-begins_inline_import _ = false
+begins_inline_import t = run at_inline_import t

@@ -1,11 +1,11 @@
 -- Signatures of imported or exported items.
 use Rattle.std.specs.Prelude.{◌≡◌, ℕ, Bool, true, false, List, codes}
-use Rattle.wat_tokens.specs.Tests.{begins_word, second}
 use Rattle.wat_tokens.specs.Production.{Production}
 use Rattle.wat_tokens.specs.Parts.{seq, made, where_else, after_word}
 use Rattle.wat_tokens.specs.Groups.{group}
+use Rattle.wat_tokens.specs.Test.{at_word, second_word}
 use Rattle.wat_types.specs.Function.{function_view, bare_function, function_type}
-use Rattle.wat_types.specs.Group.{FuncTy, begins_func}
+use Rattle.wat_types.specs.Group.{FuncTy, at_func}
 use Rattle.wat_types.specs.Label.{Label, label_view, label}
 use Rattle.wat_types.specs.Limits.{TableTy, table_type_view, table_type, memory_type}
 use Rattle.wat_types.specs.Storage.{GlobalTy, global_type_view, global_type}
@@ -70,12 +70,12 @@ bare_sig s = bare_item_kind s.kind
 
 -- a type use of a function type
 abbrev pub func_use : Production (UseTy FuncTy)
-func_use = type_use begins_func function_type
+func_use = type_use at_func function_type
 
 -- ( exact TypeUse ) if the second token is `exact`; else TypeUse
 unfoldable pub exact_use : Production (UseTy FuncTy × Bool)
 exact_use =
-    where_else (second (begins_word (codes "exact")))
+    where_else (second_word (codes "exact"))
     (made (λ u. (u, true)) (group (codes "exact") func_use)) (made (λ u. (u, false)) func_use)
 
 abbrev pub func_kind_of : UseTy FuncTy × Bool → ItemKindTy
@@ -93,16 +93,16 @@ item_of w k = made (λ v. sig_of v.0 v.1) (after_word w (seq label k))
 -- `global id? name?` GlobalType | `tag id? name?` TagType
 unfoldable pub global_or_tag : Production SigTy
 global_or_tag =
-    where_else (begins_word (codes "global")) (item_of (codes "global") (made global global_type))
+    where_else (at_word (codes "global")) (item_of (codes "global") (made global global_type))
     (item_of (codes "tag") (made tag tag_type))
 
 -- `func id? name?`, and a type use, exact or not | `table id? name?` TableType | `memory id? name?`
 -- MemoryType | global or tag
 unfoldable pub item_sig : Production SigTy
 item_sig =
-    where_else (begins_word (codes "func")) (item_of (codes "func") func_kind)
-    (where_else (begins_word (codes "table")) (item_of (codes "table") (made table table_type))
-    (where_else (begins_word (codes "memory")) (item_of (codes "memory") (made memory memory_type))
+    where_else (at_word (codes "func")) (item_of (codes "func") func_kind)
+    (where_else (at_word (codes "table")) (item_of (codes "table") (made table table_type))
+    (where_else (at_word (codes "memory")) (item_of (codes "memory") (made memory memory_type))
     global_or_tag))
 
 -- ---- one signature and its clone

@@ -1,10 +1,10 @@
 -- The `producers` section.
 use Rattle.std.specs.Prelude.{ℕ, Bool, true, false, List, [], ◌∷◌, ◌++◌, codes, map, filter}
 use Rattle.std.specs.Borrow.{Bor}
-use Rattle.wat_tokens.specs.Tests.{more}
 use Rattle.wat_tokens.specs.Production.{Production}
 use Rattle.wat_tokens.specs.Parts.{made, annotation}
 use Rattle.wat_tokens.specs.Many.{many}
+use Rattle.wat_tokens.specs.Test.{at_more}
 use Rattle.wat_links.specs.declared.producers.Field.{Field}
 use Rattle.wat_links.specs.declared.producers.Field.TheVariants.{Language, Sdk, ProcessedBy}
 use Rattle.wat_links.specs.declared.producers.ProducerEntry.{ProducerEntry}
@@ -30,7 +30,7 @@ entry_view e = (e.field, (e.name.now, e.version.now))
 
 -- entries, to the end of the group
 unfoldable pub producer_entries : Production (List ProducerTy)
-producer_entries = many more producer_entry producer_entry_consumes
+producer_entries = many at_more producer_entry producer_entry_consumes
 
 -- ---- fields
 

@@ -1,13 +1,13 @@
 -- Custom sections of any name, with their bytes.
 use Rattle.std.specs.Prelude.{ℕ, Bool, List, codes, map, unwrap_or}
 use Rattle.std.proofs.Common.{lit≤}
-use Rattle.wat_tokens.specs.Tests.{more, begins_lparen}
 use Rattle.wat_tokens.specs.Production.{Production}
 use Rattle.wat_tokens.specs.Parts.{seq, made, opt, annotation}
 use Rattle.wat_tokens.specs.Groups.{paren}
 use Rattle.wat_tokens.specs.Many.{many}
 use Rattle.wat_tokens.specs.Strings.{string, text}
 use Rattle.wat_tokens.specs.Views.{no_items}
+use Rattle.wat_tokens.specs.Test.{at_lparen, at_more}
 use Rattle.wat_links.specs.CustomPlace.{custom_place}
 use Rattle.wat_links.specs.declared.custom_place.CustomPlace.{CustomPlace}
 use Rattle.wat_links.specs.declared.custom_place.CustomPlace.TheVariants.{AfterLast}
@@ -31,11 +31,11 @@ bare_raw r = no_items r.data
 
 -- ( place )?; without a place, after the last section
 unfoldable pub raw_place : Production CustomPlace
-raw_place = made (λ p. unwrap_or p AfterLast) (opt begins_lparen (paren custom_place))
+raw_place = made (λ p. unwrap_or p AfterLast) (opt at_lparen (paren custom_place))
 
 -- bytes*, to the end of the group
 unfoldable pub raw_data : Production (List (List ℕ))
-raw_data = many more string (lit≤ tt)
+raw_data = many at_more string (lit≤ tt)
 
 -- @custom name ( place )? bytes*
 unfoldable pub raw_custom : Production RawTy

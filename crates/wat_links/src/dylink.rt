@@ -1,6 +1,6 @@
 //! The `dylink.0` section.
 
-ghost use Rattle.std.specs.Prelude.{◌≡◌, ℕ, codes, List, map};
+ghost use Rattle.std.specs.Prelude.{◌≡◌, ℕ, List, map};
 ghost use Rattle.wat_tokens.specs.Reads.{Reads};
 ghost use Rattle.wat_tokens.specs.Tests.{more};
 ghost use Rattle.wat_tokens.specs.Views.{plain, owning, no_items};
@@ -8,7 +8,8 @@ ghost use Rattle.wat_links.specs.Dylink.{SubsectionTy, dylink_export_view, dylin
 ghost use Rattle.wat_links.specs.Dylink.{subsection_view};
 ghost use Rattle.wat_links.specs.Dylink.{dylink_view, bare_subsection, id_of, sizes};
 ghost use Rattle.wat_links.specs.Dylink.{mem_info_entry, names_entry, lone_entry, begins_export};
-ghost use Rattle.wat_links.specs.Dylink.{begins_import, run, subsection};
+ghost use Rattle.wat_links.specs.Dylink.{begins_import, entry_run, subsection, at_export};
+ghost use Rattle.wat_links.specs.Dylink.{at_import};
 ghost use Rattle.wat_links.specs.DylinkEntries.{export_entry, import_entry};
 ghost use Rattle.wat_links.specs.Laws.DylinkEntries.{export_entry_consumes, import_entry_consumes};
 ghost use Rattle.wat_links.specs.Cutting.{dylink};
@@ -195,7 +196,7 @@ impl<'a> Part<'a, (&'a str, &'a str, u32)> for ImportEntry {
 #[tactic(auto, using(crate::proofs::Runs::run_steps))]
 fn read_exports<'a>(parser: &mut Parser<'a>) -> Result<Vec<(&'a str, u32)>>
     ensures reads { Reads (owning (λ v. map dylink_export_view v.items) no_items)
-        (run begins_export export_entry export_entry_consumes) result parser.old parser.new }
+        (entry_run at_export export_entry export_entry_consumes) result parser.old parser.new }
 {
     let mut entries = Vec::new(parser.alloc());
     entries.push(ExportEntry::take(parser)?)?;
@@ -207,7 +208,7 @@ fn read_exports<'a>(parser: &mut Parser<'a>) -> Result<Vec<(&'a str, u32)>>
 #[tactic(auto, using(crate::proofs::Runs::run_steps))]
 fn read_imports<'a>(parser: &mut Parser<'a>) -> Result<Vec<(&'a str, &'a str, u32)>>
     ensures reads { Reads (owning (λ v. map dylink_import_view v.items) no_items)
-        (run begins_import import_entry import_entry_consumes) result parser.old parser.new }
+        (entry_run at_import import_entry import_entry_consumes) result parser.old parser.new }
 {
     let mut entries = Vec::new(parser.alloc());
     entries.push(ImportEntry::take(parser)?)?;

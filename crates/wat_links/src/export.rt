@@ -5,10 +5,11 @@ ghost use Rattle.wat_tokens.specs.Copies.{Copies};
 ghost use Rattle.wat_tokens.specs.Lookup.{in_front};
 ghost use Rattle.wat_tokens.specs.Views.{plain, owning, no_items};
 ghost use Rattle.wat_links.specs.Item.{SameSig};
-ghost use Rattle.wat_links.specs.Export.{kind_words, export_kind, begins_kind, ExportTy};
+ghost use Rattle.wat_links.specs.Export.{kind_words, export_kind, ExportTy};
 ghost use Rattle.wat_links.specs.Export.{export_view, export_, ExportTypeTy, export_type_view};
 ghost use Rattle.wat_links.specs.Export.{bare_export_type, export_type, inline_export_view};
-ghost use Rattle.wat_links.specs.Export.{begins_inline_export, inline_export};
+ghost use Rattle.wat_links.specs.Export.{begins_inline_export, inline_export, at_inline_export};
+ghost use Rattle.wat_links.specs.Export.{at_export_kind};
 ghost use Rattle.wat_links.specs.InlineName.{inline_name};
 
 use crate::item::ItemSig;
@@ -101,9 +102,9 @@ impl<'a> Parse<'a> for ExportKind {
 
 /// An [`ExportKind`] begins at one of its keywords.
 impl Peek for ExportKind {
-    ghost begins = { begins_kind };
+    ghost begins = { at_export_kind };
 
-    #[tactic(auto, unfolding(crate::specs::Export::begins_kind))]
+    #[tactic(auto, unfolding(crate::specs::Export::at_export_kind))]
     fn peek(cursor: Cursor<'_>) -> bool {
         begins_named::<Self>(cursor)
     }
@@ -277,7 +278,7 @@ impl<'a> Parse<'a> for InlineExport<'a> {
 /// An [`InlineExport`] begins at `(`, `export`, a string and `)`. An empty [`InlineExport`] takes
 /// no token.
 impl<'p> Peek for InlineExport<'p> {
-    ghost begins = { begins_inline_export };
+    ghost begins = { at_inline_export };
 
     fn peek(cursor: Cursor<'_>) -> bool
         ensures { result ≡ begins_inline_export (in_front cursor.entry) }

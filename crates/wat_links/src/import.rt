@@ -8,14 +8,15 @@ ghost use Rattle.wat_tokens.specs.Copies.{Copies};
 ghost use Rattle.wat_tokens.specs.Lookup.{in_front};
 ghost use Rattle.wat_tokens.specs.Reads.{Reads};
 ghost use Rattle.wat_tokens.specs.Views.{plain, owning, no_items};
-ghost use Rattle.wat_links.specs.Item.{SigTy, sig_view, bare_sig, SameSig};
+ghost use Rattle.wat_links.specs.Item.{SigTy, sig_view, bare_sig};
 ghost use Rattle.wat_links.specs.Forms.{import_items, imports};
-ghost use Rattle.wat_links.specs.Import.{ItemsTy, ImportsTy, module_of, typed_view, named_view};
+ghost use Rattle.wat_links.specs.Import.{ImportsTy, module_of, typed_view, named_view};
 ghost use Rattle.wat_links.specs.Import.{items_view, imports_view, bare_items, bare_imports};
 ghost use Rattle.wat_links.specs.Import.{item_follows, shared_sig, single_item, typed_items};
 ghost use Rattle.wat_links.specs.Import.{named_items, opens_typed, typed, item_sigs, item_count};
 ghost use Rattle.wat_links.specs.Import.{own_sigs, SameTyped, SameAll, SameItems};
 ghost use Rattle.wat_links.specs.Import.{inline_import_view, inline_import, begins_inline_import};
+ghost use Rattle.wat_links.specs.Import.{at_inline_import};
 ghost use Rattle.wat_links.specs.ImportItem.{typed_item, named_item};
 ghost use Rattle.wat_links.specs.Lend.{typed_sig_at, sig_at, LendsTyped, LendsItems, LendsImports};
 
@@ -509,7 +510,7 @@ impl<'a> Parse<'a> for InlineImport<'a> {
 
 /// An [`InlineImport`] begins at `(`, `import`, two strings and `)`.
 impl<'p> Peek for InlineImport<'p> {
-    ghost begins = { begins_inline_import };
+    ghost begins = { at_inline_import };
 
     fn peek(cursor: Cursor<'_>) -> bool
         ensures { result ≡ begins_inline_import (in_front cursor.entry) }

@@ -1,4 +1,5 @@
 -- The word of an instruction.
+use Rattle.wat_tokens.specs.Asks.{nothing}
 use Rattle.wat_tokens.specs.Production.{Production}
 use Rattle.wat_mnemonics.specs.declared.op.Op.{Op}
 use Rattle.wat_mnemonics.specs.Word.{mnemonic_spells, mnemonic_reads}
@@ -17,4 +18,6 @@ mnemonic = record {
   complete = mnemonic_complete;
   takes = mnemonic_takes;
   balanced = mnemonic_balanced;
+  asks = nothing;
+  moves = λ v c r s a p. p;
 }

@@ -3,7 +3,7 @@ use Rattle.std.proofs.Common.{◌≡◌, ◌≢◌, ℕ, ◌==◌, true, List, [
 use Rattle.std.specs.Cmp.{unsigned_Decides}
 use Rattle.std.specs.Str.Pattern.{LacksTextAt, FindsTextPrefix, StripsPrefix}
 use Rattle.wat_tokens.specs.Laws.Production.{by_test}
-use Rattle.wat_operands.specs.Align.{past_front}
+use Rattle.wat_tokens.specs.Kind.{past_front}
 
 abbrev some_text : List ℕ → Option (List ℕ)
 some_text u = Some u

@@ -9,7 +9,8 @@ use Rattle.wat_tokens.specs.ManySpells.{many_at, many_reads}
 use Rattle.wat_tokens.specs.Number.{read}
 use Rattle.wat_operands.specs.Lanes.{lane_arg, lane_access}
 use Rattle.wat_operands.specs.Memory.{MemArgTy, array, target, offset_or_0, align, align_or, mem_arg, atomic_mem_arg}
-use Rattle.wat_operands.specs.Align.{past_front, field}
+use Rattle.wat_operands.specs.Align.{field}
+use Rattle.wat_tokens.specs.Kind.{past_front}
 use Rattle.wat_operands.specs.Ordering.{ordering, ordered}
 use Rattle.wat_operands.specs.ImmediateRows.{Accesses, AtomicAccesses, LaneAccesses, TableInits, TableCopies, Vector, OrderedTable}
 use Rattle.wat_operands.specs.Tables.{index_or_0, index_pair, init, copy}

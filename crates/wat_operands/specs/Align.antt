@@ -1,18 +1,13 @@
 -- Keywords that contain a number, and which tokens spell an alignment.
-use Rattle.std.specs.Prelude.{ℕ, ◌==◌, if◌then◌else◌, List, [], ◌∷◌, codes, Option, None, Some}
+use Rattle.std.specs.Prelude.{ℕ, List, codes, Option, None, Some}
 use Rattle.std.specs.Prelude.{refl}
 use Rattle.std.specs.Int.{is_power_of_two}
 use Rattle.wat_tokens.specs.Number.{unsigned_value}
+use Rattle.wat_tokens.specs.Kind.{past_front}
 use Rattle.wat_tokens.specs.Token.{Tok, Keyword}
 use Rattle.wat_tokens.specs.Production.{Production}
 use Rattle.wat_tokens.specs.Parts.{one, made_where}
 use Rattle.wat_operands.specs.Power.{IsPowerOfTwo}
-
--- the text after the prefix, if it begins with the prefix
-unfoldable pub past_front : List ℕ → List ℕ → Option (List ℕ)
-past_front [] text = Some text
-past_front (b ∷ bs) [] = None
-past_front (b ∷ bs) (c ∷ text) = if b == c then past_front bs text else None
 
 abbrev pub number_in : Option (List ℕ) → Option ℕ
 number_in (Some text) = unsigned_value 64 text

@@ -3,7 +3,7 @@ use Rattle.std.specs.Prelude.{◌≡◌, Bool}
 use Rattle.wat_tokens.specs.Production.{Production}
 use Rattle.wat_tokens.specs.Parts.{seq, made}
 use Rattle.wat_types.specs.Label.{Label, label_view, label}
-use Rattle.wat_types.specs.Group.{FuncTy, begins_func}
+use Rattle.wat_types.specs.Group.{FuncTy, at_func}
 use Rattle.wat_types.specs.Function.{function_view, bare_function}
 use Rattle.wat_types.specs.Use.{UseTy, use_view, bare_use, type_use, SameFunction, SameUse}
 use Rattle.wat_types.specs.declared.function.FunctionType.{FunctionType}
@@ -22,7 +22,7 @@ bare_signature u = bare_use bare_function u
 
 -- a type use of a FunctionTypeNoNames
 abbrev pub signature : Production (UseTy FuncTy)
-signature = type_use begins_func function_type_no_names
+signature = type_use at_func function_type_no_names
 
 -- ---- blocks
 

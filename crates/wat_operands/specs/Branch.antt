@@ -5,7 +5,7 @@ use Rattle.wat_tokens.specs.Token.{Tok}
 use Rattle.wat_tokens.specs.Production.{Production}
 use Rattle.wat_tokens.specs.Parts.{seq, made}
 use Rattle.wat_tokens.specs.Many.{many}
-use Rattle.wat_tokens.specs.Index.{Idx, index_view, index, begins_index}
+use Rattle.wat_tokens.specs.Index.{Idx, index_view, index, at_index}
 use Rattle.wat_tokens.specs.Views.{no_items}
 use Rattle.wat_tokens.specs.declared.index.Index.{Index}
 use Rattle.wat_operands.specs.declared.branch.BrTableIndicesOf.{BrTableIndicesOf}
@@ -27,7 +27,7 @@ bare_br_table b = no_items b.labels
 
 -- idx and idx*: the first, and the others
 abbrev pub indices : Production (Idx × List Idx)
-indices = seq index (many begins_index index (lit≤ tt))
+indices = seq index (many at_index index (lit≤ tt))
 
 -- one or more indices: the last is the default, and the others are the labels
 abbrev pub BrTableSpells : BrTableTy → List Tok → List Tok → Type 0

@@ -1,6 +1,6 @@
 -- One clause of a try table.
 use Rattle.std.specs.Prelude.{codes}
-use Rattle.wat_tokens.specs.Tests.{begins_word}
+use Rattle.wat_tokens.specs.Test.{at_word}
 use Rattle.wat_tokens.specs.Production.{Production}
 use Rattle.wat_tokens.specs.Parts.{seq, made, where_else, word, after_word}
 use Rattle.wat_tokens.specs.Groups.{paren}
@@ -24,10 +24,10 @@ catch_of k l = record { kind = k; label = l }
 -- `catch` idx | `catch_ref` idx | `catch_all` | `catch_all_ref`
 unfoldable pub catch_kind : Production (CatchKind Idx)
 catch_kind =
-    where_else (begins_word (codes "catch")) (made Catch (after_word (codes "catch") index))
-    (where_else (begins_word (codes "catch_ref"))
+    where_else (at_word (codes "catch")) (made Catch (after_word (codes "catch") index))
+    (where_else (at_word (codes "catch_ref"))
     (made CatchRef (after_word (codes "catch_ref") index))
-    (where_else (begins_word (codes "catch_all")) (made (λ _. CatchAll) (word (codes "catch_all")))
+    (where_else (at_word (codes "catch_all")) (made (λ _. CatchAll) (word (codes "catch_all")))
     (made (λ _. CatchAllRef) (word (codes "catch_all_ref")))))
 
 -- ( catch idx idx ) | ( catch_ref idx idx ) | ( catch_all idx ) | ( catch_all_ref idx ): the label

@@ -1,8 +1,8 @@
 -- The catch clauses of a `try_table`.
-use Rattle.std.specs.Prelude.{◌≡◌, Bool, ◌||◌, List, codes, Option, Some, None, map}
+use Rattle.std.specs.Prelude.{◌≡◌, Bool, List, codes, Option, Some, None, map}
 use Rattle.std.specs.Borrow.{LendsIf, MutBor, Fml, RattleType}
 use Rattle.wat_tokens.specs.Token.{Tok}
-use Rattle.wat_tokens.specs.Tests.{begins_group}
+use Rattle.wat_tokens.specs.Test.{Test, either_test, at_group, run}
 use Rattle.wat_tokens.specs.Production.{Production}
 use Rattle.wat_tokens.specs.Parts.{seq, made}
 use Rattle.wat_tokens.specs.Many.{many}
@@ -62,16 +62,18 @@ try_view t = try_of (block_view t.block.value) (map catch_view t.catches.items)
 -- ---- the grammar
 
 -- a group that begins with one of the four words
+abbrev pub at_catch : Test
+at_catch = either_test (either_test (at_group (codes "catch")) (at_group (codes "catch_ref")))
+    (either_test (at_group (codes "catch_all")) (at_group (codes "catch_all_ref")))
+
 abbrev pub begins_catch : List Tok → Bool
-begins_catch t =
-    (begins_group (codes "catch") t || begins_group (codes "catch_ref") t)
-    || (begins_group (codes "catch_all") t || begins_group (codes "catch_all_ref") t)
+begins_catch t = run at_catch t
 
 -- BlockType, and then clauses as long as a group begins with one of the four words
 unfoldable pub try_table : Production TryTy
 try_table =
     made (λ v. try_of v.0 v.1) (seq block_type
-    (many begins_catch catch_clause catch_clause_consumes))
+    (many at_catch catch_clause catch_clause_consumes))
 
 -- ---- the same value
 

@@ -1,6 +1,6 @@
 -- One handler of a resume table.
 use Rattle.std.specs.Prelude.{codes, Option, Some, None}
-use Rattle.wat_tokens.specs.Tests.{begins_word}
+use Rattle.wat_tokens.specs.Test.{at_word}
 use Rattle.wat_tokens.specs.Production.{Production}
 use Rattle.wat_tokens.specs.Parts.{seq, made, where_else, word}
 use Rattle.wat_tokens.specs.Groups.{group}
@@ -13,7 +13,7 @@ pub data HandleTy : Type 0 where
 
 -- `switch` (no label), or the index of a label
 unfoldable pub aim : Production (Option Idx)
-aim = where_else (begins_word (codes "switch")) (made (λ _. None) (word (codes "switch")))
+aim = where_else (at_word (codes "switch")) (made (λ _. None) (word (codes "switch")))
     (made Some index)
 
 abbrev pub handler_to : Idx → Option Idx → HandleTy

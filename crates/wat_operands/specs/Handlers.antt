@@ -1,7 +1,7 @@
 -- Handler tables.
 use Rattle.std.specs.Prelude.{Bool, List, codes, map}
 use Rattle.wat_tokens.specs.Token.{Tok}
-use Rattle.wat_tokens.specs.Tests.{begins_group}
+use Rattle.wat_tokens.specs.Test.{at_group, Test, run}
 use Rattle.wat_tokens.specs.Production.{Production}
 use Rattle.wat_tokens.specs.Parts.{seq, made}
 use Rattle.wat_tokens.specs.Many.{many}
@@ -24,8 +24,11 @@ handle_view (code.OnLabel tag label) = on_label (index_view tag) (index_view lab
 handle_view (code.OnSwitch tag) = on_switch (index_view tag)
 
 -- a group that begins with `on`
+abbrev pub at_handler : Test
+at_handler = at_group (codes "on")
+
 abbrev pub begins_handler : List Tok → Bool
-begins_handler t = begins_group (codes "on") t
+begins_handler t = run at_handler t
 
 -- ---- handler tables
 
@@ -34,7 +37,7 @@ resume_table_view t = map handle_view t.handlers.items
 
 -- handlers as long as a group begins with `on`
 unfoldable pub resume_table : Production (List HandleTy)
-resume_table = many begins_handler handler handler_consumes
+resume_table = many at_handler handler handler_consumes
 
 -- ---- operands with a handler table
 

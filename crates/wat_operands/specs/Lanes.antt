@@ -1,14 +1,15 @@
 -- Lanes of vectors, and accesses to one lane.
-use Rattle.std.specs.Prelude.{ℕ, Bool, false, not, ◌||◌, List, ◌∷◌, codes, Option, None, is_none}
+use Rattle.std.specs.Prelude.{ℕ, Bool, List, codes, Option, None, is_none}
 use Rattle.std.specs.Prelude.{if◌then◌else◌, refl}
 use Rattle.wat_tokens.specs.Number.{sign_of, unsigned_value}
 use Rattle.wat_tokens.specs.Token.{Tok, Integer}
-use Rattle.wat_tokens.specs.Tests.{begins_integer}
+use Rattle.wat_tokens.specs.Test.{Test, run, both, opposite, behind, test_of, either_test}
+use Rattle.wat_tokens.specs.Test.{at_integer}
 use Rattle.wat_tokens.specs.Production.{Production}
 use Rattle.wat_tokens.specs.Parts.{one, seq, made, where_else}
 use Rattle.wat_tokens.specs.Index.{number}
 use Rattle.wat_operands.specs.Memory.{MemArgTy, memory, mem_arg_of, mem_arg, mem_arg_view}
-use Rattle.wat_operands.specs.Memory.{begins_with}
+use Rattle.wat_operands.specs.Memory.{at_front}
 use Rattle.wat_operands.specs.declared.lanes.LaneArg.{LaneArg}
 use Rattle.wat_operands.specs.declared.lanes.LaneOf.{LaneOf}
 use Rattle.wat_operands.specs.declared.memory.MemArg.{MemArg}
@@ -45,16 +46,22 @@ abbrev pub lane_alone : ℕ → LaneArg → LaneAccessTy
 lane_alone a lane = access_of (mem_arg_of (memory (number 0), (0, a)), lane)
 
 -- an Integer, or a Keyword that begins with `offset=` or `align=`
+abbrev pub at_more_access : Test
+at_more_access =
+    either_test at_integer (either_test (at_front (codes "offset=")) (at_front (codes "align=")))
+
 abbrev pub goes_on : List Tok → Bool
-goes_on t = begins_integer t || (begins_with (codes "offset=") t || begins_with (codes "align=") t)
+goes_on t = run at_more_access t
 
 -- the first token is an Integer, and the next is neither an Integer nor a Keyword that begins with
 -- `offset=` or `align=`
+abbrev pub at_alone : Test
+at_alone = test_of (both at_integer.asks (opposite (behind at_more_access.asks))) refl
+
 abbrev pub is_alone : List Tok → Bool
-is_alone (Integer text ∷ r) = not (goes_on r)
-is_alone _ = false
+is_alone t = run at_alone t
 
 -- only a LaneArg if is_alone holds: memory 0, offset 0, align a; else MemArg, LaneArg
 unfoldable pub lane_access : ℕ → Production LaneAccessTy
 lane_access a =
-    where_else is_alone (made (lane_alone a) lane_arg) (made access_of (seq (mem_arg a) lane_arg))
+    where_else at_alone (made (lane_alone a) lane_arg) (made access_of (seq (mem_arg a) lane_arg))

@@ -1,15 +1,17 @@
 -- The operand of an access to a memory or an array: a target, an offset, an alignment and an
 -- ordering.
-use Rattle.std.specs.Prelude.{ℕ, Bool, false, if◌then◌else◌, List, ◌∷◌, codes, Option, None}
-use Rattle.std.specs.Prelude.{is_some, option_map, unwrap_or}
-use Rattle.wat_tokens.specs.Token.{Tok, Keyword}
+use Rattle.std.specs.Prelude.{ℕ, Bool, if◌then◌else◌, List, codes, Option, None}
+use Rattle.std.specs.Prelude.{option_map, unwrap_or}
+use Rattle.wat_tokens.specs.Kind.{word_from}
+use Rattle.wat_tokens.specs.Test.{Test, run, at_kind, second_word}
+use Rattle.wat_tokens.specs.Token.{Tok}
 use Rattle.wat_tokens.specs.Tests.{begins_word, second}
 use Rattle.wat_tokens.specs.Production.{Production}
 use Rattle.wat_tokens.specs.Parts.{seq, made, where_else, opt}
 use Rattle.wat_tokens.specs.Groups.{group}
 use Rattle.wat_tokens.specs.Index.{Idx, index_view, index}
 use Rattle.wat_tokens.specs.Restated.{restated}
-use Rattle.wat_operands.specs.Ordering.{ordering, begins_ordering}
+use Rattle.wat_operands.specs.Ordering.{ordering, at_ordering}
 use Rattle.wat_operands.specs.Tables.{index_or_0}
 use Rattle.wat_operands.specs.declared.memory.MemArg.{MemArg}
 use Rattle.wat_operands.specs.declared.memory.MemArgOrdering.{MemArgOrdering}
@@ -17,7 +19,7 @@ use Rattle.wat_operands.specs.declared.memory.MemArgOrdering.TheVariants.{Op, Rm
 use Rattle.wat_operands.specs.declared.memory.MemArgTarget.{MemArgTarget}
 use Rattle.wat_operands.specs.declared.memory.MemArgTarget.TheVariants as code
 use Rattle.wat_operands.specs.declared.ordering.Ordering.{Ordering}
-use Rattle.wat_operands.specs.Align.{past_front, field, AlignSpells, align_tested}
+use Rattle.wat_operands.specs.Align.{field, AlignSpells, align_tested}
 use Rattle.wat_operands.specs.Laws.Memory.{align_to, align_from}
 
 -- ---- targets
@@ -37,26 +39,30 @@ array_follows t = second (begins_word (codes "type")) t
 
 -- ( type idx ), an array, if the second token is `type`; else idx?, a memory, default 0
 unfoldable pub target : Production TargetTy
-target = where_else array_follows (made array (group (codes "type") index)) (made memory index_or_0)
+target =
+    where_else (second_word (codes "type")) (made array (group (codes "type") index))
+    (made memory index_or_0)
 
 -- ---- words that contain a number
 
 -- a keyword that begins with the given text
+abbrev pub at_front : List ℕ → Test
+at_front front = at_kind (word_from front)
+
 abbrev pub begins_with : List ℕ → List Tok → Bool
-begins_with front (Keyword w ∷ r) = is_some (past_front front w)
-begins_with front _ = false
+begins_with front t = run (at_front front) t
 
 -- `offset=`n?, default 0
 unfoldable pub offset_or_0 : Production ℕ
 offset_or_0 =
-    made (λ o. unwrap_or o 0) (opt (begins_with (codes "offset=")) (field (codes "offset=")))
+    made (λ o. unwrap_or o 0) (opt (at_front (codes "offset=")) (field (codes "offset=")))
 
 unfoldable pub align : Production ℕ
 align = restated align_tested AlignSpells align_to align_from
 
 -- `align=`n?, default a
 unfoldable pub align_or : ℕ → Production ℕ
-align_or a = made (λ o. unwrap_or o a) (opt (begins_with (codes "align=")) align)
+align_or a = made (λ o. unwrap_or o a) (opt (at_front (codes "align=")) align)
 
 -- ---- the whole operand
 
@@ -93,4 +99,4 @@ with_ordering rmw v = record v.0 { ordering = option_map (ordering_as rmw) v.1 }
 
 -- a MemArg, then Ordering?, kept as Op or Rmw
 unfoldable pub atomic_mem_arg : ℕ → Bool → Production MemArgTy
-atomic_mem_arg a rmw = made (with_ordering rmw) (seq (mem_arg a) (opt begins_ordering ordering))
+atomic_mem_arg a rmw = made (with_ordering rmw) (seq (mem_arg a) (opt at_ordering ordering))

@@ -1,7 +1,7 @@
 -- Orderings of atomic accesses, and operands after an ordering.
-use Rattle.std.specs.Prelude.{Bool, ◌||◌, List, codes}
+use Rattle.std.specs.Prelude.{Bool, List, codes}
 use Rattle.wat_tokens.specs.Token.{Tok}
-use Rattle.wat_tokens.specs.Tests.{begins_word}
+use Rattle.wat_tokens.specs.Test.{Test, either_test, at_word, run}
 use Rattle.wat_tokens.specs.Production.{Production}
 use Rattle.wat_tokens.specs.Parts.{word, seq, made, where_else}
 use Rattle.wat_operands.specs.declared.ordering.Ordered.{Ordered}
@@ -11,11 +11,14 @@ use Rattle.wat_operands.specs.declared.ordering.Ordering.TheVariants.{AcqRel, Se
 -- seqcst | acqrel
 unfoldable pub ordering : Production Ordering
 ordering =
-    where_else (begins_word (codes "seqcst")) (made (λ _. SeqCst) (word (codes "seqcst")))
+    where_else (at_word (codes "seqcst")) (made (λ _. SeqCst) (word (codes "seqcst")))
     (made (λ _. AcqRel) (word (codes "acqrel")))
 
+abbrev pub at_ordering : Test
+at_ordering = either_test (at_word (codes "seqcst")) (at_word (codes "acqrel"))
+
 abbrev pub begins_ordering : List Tok → Bool
-begins_ordering t = begins_word (codes "seqcst") t || begins_word (codes "acqrel") t
+begins_ordering t = run at_ordering t
 
 -- the ordering, and the given view of the operand after it
 abbrev pub ordered_view : {T A : Type 0} → (T → A) → Ordered T → Ordering × A

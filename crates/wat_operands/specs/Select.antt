@@ -2,7 +2,7 @@
 use Rattle.std.specs.Prelude.{◌≡◌, Bool, List, codes, Option, Vec, map}
 use Rattle.std.specs.declared.alloc.Global.{Global}
 use Rattle.wat_tokens.specs.Token.{Tok}
-use Rattle.wat_tokens.specs.Tests.{begins_word, second}
+use Rattle.wat_tokens.specs.Test.{second_word, Test, run}
 use Rattle.wat_tokens.specs.Production.{Production}
 use Rattle.wat_tokens.specs.Parts.{opt}
 use Rattle.wat_tokens.specs.Joined.{joined}
@@ -33,10 +33,14 @@ SameTypes a b = SameOption (λ v w. v.items ≡ w.items) a b
 -- ---- the grammar
 
 -- one more group has to follow: the second token is `result`, for any first token
+abbrev pub at_result : Test
+at_result = second_word (codes "result")
+
 abbrev pub result_follows : List Tok → Bool
-result_follows t = second (begins_word (codes "result")) t
+result_follows t = run at_result t
 
 -- None if no group has to follow; else groups as long as one more has to follow: the types of all
 -- groups, in order
 unfoldable pub select_types : Production (Option (List ValTy))
-select_types = opt result_follows (joined result_follows result_group result_group_consumes)
+select_types =
+    opt at_result (joined at_result result_group result_group_consumes)

@@ -1,9 +1,8 @@
 -- Operands that name tables and memories.
 use Rattle.std.specs.Prelude.{unwrap_or}
-use Rattle.wat_tokens.specs.Tests.{second}
 use Rattle.wat_tokens.specs.Production.{Production}
 use Rattle.wat_tokens.specs.Parts.{seq, made, where_else, opt}
-use Rattle.wat_tokens.specs.Index.{Idx, number, index_view, index, begins_index}
+use Rattle.wat_tokens.specs.Index.{Idx, number, index_view, index, at_index, at_second_index}
 use Rattle.wat_tokens.specs.declared.index.Index.{Index}
 use Rattle.wat_operands.specs.declared.tables.MemoryArgOf.{MemoryArgOf}
 use Rattle.wat_operands.specs.declared.tables.MemoryCopyOf.{MemoryCopyOf}
@@ -16,7 +15,7 @@ use Rattle.wat_operands.specs.declared.tables.TableInitOf.{TableInitOf}
 
 -- idx?, default 0
 unfoldable pub index_or_0 : Production Idx
-index_or_0 = made (λ o. unwrap_or o (number 0)) (opt begins_index index)
+index_or_0 = made (λ o. unwrap_or o (number 0)) (opt at_index index)
 
 abbrev pub table_arg_view : TableArgOf Index → Idx
 table_arg_view a = index_view a.dst
@@ -46,7 +45,7 @@ into_0 segment = (number 0, segment)
 
 -- idx (target) idx (segment) if the second token is an Id or Integer; else idx (segment), target 0
 unfoldable pub init : Production (Idx × Idx)
-init = where_else (second begins_index) index_pair (made into_0 index)
+init = where_else at_second_index index_pair (made into_0 index)
 
 -- ---- a destination and a source
 
@@ -59,4 +58,4 @@ memory_copy_view c = (index_view c.dst, index_view c.src)
 
 -- idx (destination) idx (source), or no tokens: 0 and 0
 unfoldable pub copy : Production (Idx × Idx)
-copy = made (λ o. unwrap_or o (number 0, number 0)) (opt begins_index index_pair)
+copy = made (λ o. unwrap_or o (number 0, number 0)) (opt at_index index_pair)

@@ -2,7 +2,7 @@
 use Rattle.std.specs.Prelude.{ℕ, ◌%◌, ◌^◌, Bool, true, ◌&&◌, List, [], ◌∷◌, ◌++◌, codes, map}
 use Rattle.std.specs.Prelude.{flat_map, ⊤}
 use Rattle.std.specs.Int.{Width, w8, w16, w32, w64, cast_unsigned, to_le_bytes}
-use Rattle.wat_tokens.specs.Tests.{begins_word}
+use Rattle.wat_tokens.specs.Test.{at_word}
 use Rattle.wat_tokens.specs.Production.{Production}
 use Rattle.wat_tokens.specs.Parts.{word, seq, made, where_else}
 use Rattle.wat_tokens.specs.Integers.{unsigned, signed}
@@ -66,22 +66,22 @@ shaped w f g = made (λ v. f v.1) (seq (word w) g)
 -- spell these constants
 unfoldable pub float_const : Production V128Const
 float_const =
-    where_else (begins_word (codes "f32x4")) (shaped (codes "f32x4") f32x4_of (four none))
+    where_else (at_word (codes "f32x4")) (shaped (codes "f32x4") f32x4_of (four none))
     (shaped (codes "f64x2") f64x2_of (two none))
 
 -- `i32x4` with 4 i32, `i64x2` with 2 i64, or a constant of floating-point numbers
 unfoldable pub wide_const : Production V128Const
 wide_const =
-    where_else (begins_word (codes "i32x4")) (shaped (codes "i32x4") I32x4 (four (signed 32)))
-    (where_else (begins_word (codes "i64x2")) (shaped (codes "i64x2") I64x2 (two (signed 64)))
+    where_else (at_word (codes "i32x4")) (shaped (codes "i32x4") I32x4 (four (signed 32)))
+    (where_else (at_word (codes "i64x2")) (shaped (codes "i64x2") I64x2 (two (signed 64)))
     float_const)
 
 -- `i8x16` with 16 i8, `i16x8` with 8 i16, `i32x4` with 4 i32, `i64x2` with 2 i64; `f32x4` and
 -- `f64x2` have no spelling
 unfoldable pub v128_const : Production V128Const
 v128_const =
-    where_else (begins_word (codes "i8x16")) (shaped (codes "i8x16") I8x16 (sixteen (signed 8)))
-    (where_else (begins_word (codes "i16x8")) (shaped (codes "i16x8") I16x8 (eight (signed 16)))
+    where_else (at_word (codes "i8x16")) (shaped (codes "i8x16") I8x16 (sixteen (signed 8)))
+    (where_else (at_word (codes "i16x8")) (shaped (codes "i16x8") I16x8 (eight (signed 16)))
     wide_const)
 
 -- ---- bytes

@@ -7,7 +7,8 @@ ghost use Rattle.wat_tokens.specs.Reads.{Reads};
 ghost use Rattle.wat_tokens.specs.Views.{plain};
 ghost use Rattle.wat_operands.specs.Memory.{target_view, target, begins_with, offset_or_0, align};
 ghost use Rattle.wat_operands.specs.Memory.{align_or, mem_arg_view, mem_arg, atomic_mem_arg};
-ghost use Rattle.wat_operands.specs.Align.{past_front, field};
+ghost use Rattle.wat_operands.specs.Align.{field};
+ghost use Rattle.wat_tokens.specs.Kind.{past_front};
 
 use crate::ordering::Ordering;
 use crate::tables::index_or_0;

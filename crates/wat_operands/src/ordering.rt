@@ -1,7 +1,7 @@
 //! The memory ordering of atomic accesses.
 
 ghost use Rattle.wat_tokens.specs.Views.{plain, holding};
-ghost use Rattle.wat_operands.specs.Ordering.{ordering, begins_ordering, ordered_view, ordered};
+ghost use Rattle.wat_operands.specs.Ordering.{ordering, at_ordering, ordered_view, ordered};
 
 use wat_tokens::{Cursor, Parse, Parser, Peek, Result};
 
@@ -48,7 +48,7 @@ impl<'a> Parse<'a> for Ordering {
 
 /// `seqcst` or `acqrel`.
 impl Peek for Ordering {
-    ghost begins = { begins_ordering };
+    ghost begins = { at_ordering };
 
     fn peek(cursor: Cursor<'_>) -> bool {
         cursor.keyword_is("seqcst") || cursor.keyword_is("acqrel")

@@ -242,17 +242,21 @@ blank_form = record {
 abbrev pub before_unit : {A : Type 0} → A → A × Unit {0}
 before_unit a = (a, tt)
 
--- word, then p
-abbrev pub after_form : {A : Type 0} → List ℕ → Form A → Form A
-after_form w p = record {
-  spell = λ v. Keyword w ∷ p.spell v;
+-- the token, then p. `Fronts` is the condition on tests of tokens that begin with the token.
+abbrev pub led_form : {A : Type 0} → (Test → Type 0) → Tok → Form A → Form A
+led_form Fronts t p = record {
+  spell = λ v. t ∷ p.spell v;
   printable = p.printable;
   ready = p.ready;
   follows = p.follows;
   empty = false;
   balanced = p.balanced;
-  Fronts = λ rest. OfWord w any;
+  Fronts = λ rest. Fronts;
 }
+
+-- word, then p
+abbrev pub after_form : {A : Type 0} → List ℕ → Form A → Form A
+after_form w = led_form (OfWord w any) (Keyword w)
 
 -- ( word .. )
 abbrev pub group_form : {A : Type 0} → List ℕ → Form A → Form A

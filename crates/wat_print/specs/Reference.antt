@@ -2,9 +2,9 @@
 use Rattle.std.specs.Prelude.{◌≡◌, ℕ, Bool, true, false, List, ◌∷◌, codes, ◌⊎◌}
 use Rattle.std.proofs.Common.{inl, inr}
 use Rattle.wat_lexer.specs.Token.{Tok, Keyword}
-use Rattle.wat_tokens.specs.Begin.{begins_one_of}
 use Rattle.wat_tokens.specs.Index.{Idx, begins_index}
-use Rattle.wat_tokens.specs.Tests.{begins_group, word_in}
+use Rattle.wat_tokens.specs.Tests.{begins_group}
+use Rattle.wat_tokens.specs.Test.{at_listed, run}
 use Rattle.wat_types.specs.Heap.{abstract_word, HeapTy, concrete, exact, abstract_}
 use Rattle.wat_types.specs.Reference.{RefTy}
 use Rattle.wat_types.specs.Value.{ValTy, i32, i64, f32, f64, ref, plain_words}
@@ -99,4 +99,4 @@ val_parts (ref r) = inr r
 val_parts t = inl t
 
 abbrev pub val_form : Form ValTy
-val_form = by val_parts (else_form (begins_one_of (word_in plain_words)) plain_type_form ref_form)
+val_form = by val_parts (else_form (λ r. run (at_listed plain_words) r) plain_type_form ref_form)

@@ -2,7 +2,6 @@
 use Rattle.std.specs.Prelude.{◌≡◌, ◌==◌, ℕ, Bool, true, false, ◌&&◌, List, [], ◌∷◌, ◌++◌, flat_map}
 use Rattle.std.specs.Prelude.{map, length, Option, Some, None, option_map, is_some}
 use Rattle.std.proofs.Common.{refl, ap, subst, sym, ◌∙◌, append-nil, get_or, arith}
-use Rattle.std.proofs.Math.Bool.{and_assoc}
 use Rattle.std.proofs.lemmas.Bool.{and_parts, eqb-true, and_left, and_right}
 use Rattle.std.proofs.lemmas.List.{map-append}
 use Rattle.wat_tokens.specs.Laws.Production.{by_test}
@@ -14,6 +13,7 @@ use Rattle.wat_expr.specs.Folded.{Groups, NoGroup, Group}
 use Rattle.wat_print.specs.Parts.{each, spell_option}
 use Rattle.wat_print.specs.Text.{Page, put}
 use Rattle.wat_print.specs.Laws.Written.{put_then, put_parens, put_both}
+use Rattle.wat_print.specs.Laws.Parts.{each_append}
 use Rattle.wat_print_instr.specs.FoldedForm.{takes_catches, is_catch, op_of, own_groups}
 use Rattle.wat_print_instr.specs.FoldedForm.{catch_first, groups_behind, group_from, own_form}
 use Rattle.wat_print_instr.specs.FoldedForm.{spell_groups, spell_folded, no_hints, printable_folded}
@@ -39,23 +39,14 @@ group_written i gs a b c d e f g h k =
 
 -- ---- instructions that can be written
 
-pub each_split : (xs : List Instr) (i : Instr) (ys : List Instr)
-    → each printable_instruction (xs ++ i ∷ ys)
-    ≡ each printable_instruction xs && (printable_instruction i && each printable_instruction ys)
-each_split [] i ys = refl
-each_split (x ∷ xs) i ys =
-    ap (λ (b : Bool). printable_instruction x && b) (each_split xs i ys)
-    ∙ sym (and_assoc (printable_instruction x) (each printable_instruction xs)
-    (printable_instruction i && each printable_instruction ys))
-
 pub unprintable_here : (xs : List Instr) (i : Instr) (ys : List Instr)
     → printable_instruction i ≡ false
     → each printable_instruction (xs ++ i ∷ ys) ≡ false
 unprintable_here xs i ys e =
-    each_split xs i ys ∙ and_right (each printable_instruction xs) _ (and_left _ _ e)
+    each_append printable_instruction xs (i ∷ ys) ∙ and_right (each printable_instruction xs) _ (and_left _ _ e)
 
 -- tokens and instructions in groups
-pub ruleset groups_put = (own_spelled, put_both, each_split, unprintable_here, map-append)
+pub ruleset groups_put = (own_spelled, put_both, each_append, unprintable_here, map-append)
 
 -- ---- values that are viewed as instructions
 
@@ -108,7 +99,7 @@ module _ (e : Expr) (is : List Instr) (i : Instr) (s : e.instrs ≡ is ++ i ∷ 
 
   parts_are : each printable_instruction e.instrs
       ≡ each printable_instruction is && (printable_instruction i && true)
-  parts_are = ap (each printable_instruction) s ∙ each_split is i []
+  parts_are = ap (each printable_instruction) s ∙ each_append printable_instruction is (i ∷ [])
 
   pub folded_printable : no_hints e.hints ≡ true → printable_instruction i ≡ true
       → each printable_instruction is && is_some (groups_behind i is) ≡ true

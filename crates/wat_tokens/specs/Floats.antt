@@ -1,4 +1,5 @@
 -- Floating-point literals, which are not read.
+use Rattle.wat_tokens.specs.Asks.{nothing}
 use Rattle.wat_tokens.specs.Production.{Production}
 use Rattle.wat_tokens.specs.NoneSpells.{none_spells, none_reads}
 use Rattle.wat_tokens.specs.Laws.Floats.{none_sound, none_complete, none_takes, none_balanced}
@@ -13,4 +14,6 @@ none = record {
   complete = none_complete;
   takes = none_takes;
   balanced = none_balanced;
+  asks = nothing;
+  moves = λ v c r s a p. absurd p;
 }

@@ -1,8 +1,10 @@
 -- A part whose value decides the next part, and the empty part.
+use Rattle.wat_tokens.specs.Asks.{nothing, everything}
 use Rattle.wat_tokens.specs.Production.{Production}
 use Rattle.wat_tokens.specs.FollowedSpells.{followed_spells, followed_reads, blank_spells}
 use Rattle.wat_tokens.specs.FollowedSpells.{blank_reads}
 use Rattle.wat_tokens.specs.Laws.Followed.{followed_sound, followed_complete, followed_takes}
+use Rattle.wat_tokens.specs.Laws.Moves.{followed_moves}
 use Rattle.wat_tokens.specs.Laws.Followed.{followed_balanced, blank_sound, blank_complete}
 use Rattle.wat_tokens.specs.Laws.Followed.{blank_takes, blank_balanced}
 
@@ -18,6 +20,8 @@ followed g h = record {
   complete = followed_complete g h;
   takes = followed_takes g h;
   balanced = followed_balanced g h;
+  asks = everything;
+  moves = followed_moves g h;
 }
 
 -- ---- no tokens
@@ -32,4 +36,6 @@ blank a = record {
   complete = blank_complete a;
   takes = blank_takes a;
   balanced = blank_balanced a;
+  asks = nothing;
+  moves = λ v c r s a p. p;
 }

@@ -1,12 +1,15 @@
 -- Groups in parentheses, and where they end.
-use Rattle.std.specs.Prelude.{ℕ, ◌+◌, List, refl}
+use Rattle.std.specs.Prelude.{ℕ, ◌+◌, true, List, refl}
 use Rattle.wat_tokens.specs.Tests.{annotation_only}
+use Rattle.wat_tokens.specs.Test.{at_ends}
+use Rattle.wat_tokens.specs.Asks.{nothing, ask, also, behind}
 use Rattle.wat_tokens.specs.Production.{Production}
 use Rattle.wat_tokens.specs.Parts.{one, seq, made, word}
 use Rattle.wat_tokens.specs.GroupSpells.{paren_spells, paren_reads, end_spells, end_reads}
 use Rattle.wat_tokens.specs.GroupSpells.{turn_spells, turn_reads}
 use Rattle.wat_tokens.specs.Laws.Groups.{paren_sound, paren_complete, paren_takes, paren_balanced}
 use Rattle.wat_tokens.specs.Laws.Groups.{end_sound, end_complete, end_takes, end_balanced}
+use Rattle.wat_tokens.specs.Laws.Moves.{paren_moves, end_moves}
 use Rattle.wat_tokens.specs.Laws.Groups.{turn_sound, turn_complete, turn_takes, turn_balanced}
 
 -- ---- ( .. )
@@ -21,6 +24,8 @@ paren g = record {
   complete = paren_complete g;
   takes = paren_takes g;
   balanced = paren_balanced g;
+  asks = behind 1 g.asks;
+  moves = paren_moves g;
 }
 
 -- ( word g )
@@ -43,6 +48,8 @@ at_end g = record {
   complete = end_complete g;
   takes = end_takes g;
   balanced = end_balanced g;
+  asks = also g.asks (ask true at_ends);
+  moves = end_moves g;
 }
 
 -- ---- ) (
@@ -57,4 +64,6 @@ turn = record {
   complete = turn_complete;
   takes = turn_takes;
   balanced = turn_balanced;
+  asks = nothing;
+  moves = λ v c r s a p. p;
 }

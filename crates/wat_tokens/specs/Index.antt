@@ -1,5 +1,5 @@
 -- Identifiers and indices.
-use Rattle.std.specs.Prelude.{ℕ, List, ◌∷◌, Bool, true, false, ◌==◌, ◌++◌, Option, None, Some}
+use Rattle.std.specs.Prelude.{ℕ, List, Bool, false, ◌==◌, ◌++◌, Option, None, Some}
 use Rattle.std.specs.Prelude.{option_map, refl}
 use Rattle.std.specs.Hash as fed
 use Rattle.std.specs.Hash.{HashWrites}
@@ -8,6 +8,7 @@ use Rattle.wat_lexer.specs.Number.{unsigned_value}
 use Rattle.wat_lexer.specs.Token.{Tok, Id, Integer}
 use Rattle.wat_lexer.specs.declared.span.Span.{Span}
 use Rattle.wat_tokens.specs.Tests.{as_id}
+use Rattle.wat_tokens.specs.Test.{behind, Test, run, test_of, either_test, at_id, at_integer}
 use Rattle.wat_tokens.specs.Production.{Production}
 use Rattle.wat_tokens.specs.Parts.{one}
 use Rattle.wat_tokens.specs.declared.index.Id as code_id
@@ -49,10 +50,15 @@ index_of _ = None
 abbrev pub index : Production Idx
 index = one index_of (refl, refl)
 
+abbrev pub at_index : Test
+at_index = either_test at_id at_integer
+
 abbrev pub begins_index : List Tok → Bool
-begins_index (Id n ∷ r) = true
-begins_index (Integer text ∷ r) = true
-begins_index _ = false
+begins_index t = run at_index t
+
+-- the second token is an index, for any first token
+abbrev pub at_second_index : Test
+at_second_index = test_of (behind at_index.asks) refl
 
 -- ---- equality
 

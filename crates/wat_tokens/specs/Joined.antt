@@ -1,6 +1,6 @@
 -- Consecutive groups of parts, as the list of all their parts.
-use Rattle.std.specs.Prelude.{◌≤◌, Bool, List, ◌++◌, Option, Some, flat_map}
-use Rattle.wat_lexer.specs.Token.{Tok}
+use Rattle.std.specs.Prelude.{◌≤◌, List, ◌++◌, Option, Some, flat_map}
+use Rattle.wat_tokens.specs.Test.{Test}
 use Rattle.wat_tokens.specs.Production.{Production, Read}
 use Rattle.wat_tokens.specs.Parts.{made}
 use Rattle.wat_tokens.specs.Many.{many}
@@ -11,7 +11,7 @@ abbrev pub all_of : {A : Type 0} → List (List A) → List A
 all_of gs = flat_map (λ g. g) gs
 
 -- groups as long as one more has to follow, as the list of all their parts
-abbrev pub joined : {A : Type 0} → (follows : List Tok → Bool) (g : Production (List A))
+abbrev pub joined : {A : Type 0} → (follows : Test) (g : Production (List A))
     → 1 ≤ g.least → Production (List A)
 joined follows g consumes = made (λ gs. all_of gs) (many follows g consumes)
 

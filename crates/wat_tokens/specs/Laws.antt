@@ -11,11 +11,14 @@ pub mod Index
 pub mod Joined
 pub mod Loops
 pub mod Many
+pub mod Moves
 pub mod Numbers
 pub mod Once
 pub mod Parens
 pub mod Parts
 pub mod Production
 pub mod Refuses
+pub mod Settled
 pub mod Spelled
 pub mod State
+pub mod Test

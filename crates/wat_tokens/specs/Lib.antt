@@ -8,7 +8,7 @@ pub use Rattle.wat_lexer.specs.Sight
 pub use Rattle.wat_lexer.specs.Token
 pub use Rattle.wat_lexer.specs.View
 pub mod Adding
-pub mod Begin
+pub mod Asks
 pub mod Copies
 pub mod Cost
 pub mod Counts
@@ -16,6 +16,7 @@ pub mod Error
 pub mod Floats
 pub mod Followed
 pub mod FollowedSpells
+pub mod Kind
 pub mod GroupSpells
 pub mod Groups
 pub mod Index
@@ -36,10 +37,12 @@ pub mod Parts
 pub mod Production
 pub mod Reads
 pub mod Restated
+pub mod Settled
 pub mod Spelled
 pub mod State
 pub mod Steady
 pub mod Strings
+pub mod Test
 pub mod Tests
 pub mod Views
 pub mod Whole

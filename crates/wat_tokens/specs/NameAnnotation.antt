@@ -1,8 +1,8 @@
 -- The annotation that gives a name.
 use Rattle.std.specs.Prelude.{ℕ, Bool, List, codes}
 use Rattle.wat_lexer.specs.Token.{Tok}
-use Rattle.wat_tokens.specs.Tests.{begins_annotation}
 use Rattle.wat_tokens.specs.Production.{Production}
+use Rattle.wat_tokens.specs.Test.{Test, run, at_annotation}
 use Rattle.wat_tokens.specs.Groups.{annotation_group}
 use Rattle.wat_tokens.specs.Strings.{text}
 
@@ -10,5 +10,8 @@ use Rattle.wat_tokens.specs.Strings.{text}
 unfoldable pub name_annotation : Production (List ℕ)
 name_annotation = annotation_group (codes "name") text
 
+abbrev pub at_name : Test
+at_name = at_annotation (codes "name")
+
 abbrev pub begins_name : List Tok → Bool
-begins_name t = begins_annotation (codes "name") t
+begins_name t = run at_name t

@@ -1,8 +1,10 @@
 -- Parts of productions: one token, a sequence, a choice, a value made of parts, an optional part.
 -- Their relations and readers are in PartSpells.
-use Rattle.std.specs.Prelude.{ℕ, ◌+◌, min, Bool, true, List, Option, refl, is_some}
+use Rattle.std.specs.Prelude.{ℕ, ◌+◌, min, Bool, true, false, List, Option, refl, is_some}
 use Rattle.wat_lexer.specs.Token.{Tok}
-use Rattle.wat_tokens.specs.Tests.{word_only, begins_word, annotation_only}
+use Rattle.wat_tokens.specs.Tests.{word_only, annotation_only}
+use Rattle.wat_tokens.specs.Test.{Test, run, at_word}
+use Rattle.wat_tokens.specs.Asks.{nothing, ask, also, behind}
 use Rattle.wat_tokens.specs.Parens.{NoParens}
 use Rattle.wat_tokens.specs.Production.{Production}
 use Rattle.wat_tokens.specs.PartSpells.{one_spells, one_reads, seq_spells, seq_reads, where_spells}
@@ -12,6 +14,7 @@ use Rattle.wat_tokens.specs.Laws.Parts.{seq_complete, seq_takes, seq_balanced, w
 use Rattle.wat_tokens.specs.Laws.Parts.{where_complete, where_takes, where_balanced, of_sound}
 use Rattle.wat_tokens.specs.Laws.Parts.{of_complete, of_takes, of_balanced, opt_sound, opt_complete}
 use Rattle.wat_tokens.specs.Laws.Parts.{opt_takes, opt_balanced}
+use Rattle.wat_tokens.specs.Laws.Moves.{begun, seq_moves, where_moves, opt_moves}
 
 -- ---- one token that has a value
 
@@ -25,6 +28,8 @@ one value_of flat = record {
   complete = one_complete value_of;
   takes = one_takes value_of;
   balanced = one_balanced value_of flat;
+  asks = nothing;
+  moves = λ v c r s a p. p;
 }
 
 -- ---- one part, and then another
@@ -38,20 +43,23 @@ seq g h = record {
   complete = seq_complete g h;
   takes = seq_takes g h;
   balanced = seq_balanced g h;
+  asks = also (behind h.least g.asks) h.asks;
+  moves = seq_moves g h;
 }
 
 -- ---- one part if a test of the next tokens holds, else another part
 
-abbrev pub where_else : {A : Type 0} → (List Tok → Bool) → Production A → Production A
-    → Production A
+abbrev pub where_else : {A : Type 0} → Test → Production A → Production A → Production A
 where_else test g h = record {
-  spells = where_spells test g h;
-  reads = where_reads test g h;
+  spells = where_spells (λ r. run test r) g h;
+  reads = where_reads (λ r. run test r) g h;
   least = min g.least h.least;
-  sound = where_sound test g h;
-  complete = where_complete test g h;
-  takes = where_takes test g h;
-  balanced = where_balanced test g h;
+  sound = where_sound (λ r. run test r) g h;
+  complete = where_complete (λ r. run test r) g h;
+  takes = where_takes (λ r. run test r) g h;
+  balanced = where_balanced (λ r. run test r) g h;
+  asks = also (begun true test g) (begun false test h);
+  moves = where_moves test g h;
 }
 
 -- ---- a value made of the parts, if the parts meet a condition
@@ -65,19 +73,23 @@ made_where ok f g = record {
   complete = of_complete ok f g;
   takes = of_takes ok f g;
   balanced = of_balanced ok f g;
+  asks = g.asks;
+  moves = λ v c r s a p. (p.0, g.moves p.0 c r s a p.1, p.2, p.3);
 }
 
 -- ---- an optional part: present if the next tokens begin it
 
-abbrev pub opt : {A : Type 0} → (List Tok → Bool) → Production A → Production (Option A)
-opt begins g = record {
-  spells = opt_spells begins g;
-  reads = opt_reads begins g;
+abbrev pub opt : {A : Type 0} → Test → Production A → Production (Option A)
+opt test g = record {
+  spells = opt_spells (λ r. run test r) g;
+  reads = opt_reads (λ r. run test r) g;
   least = 0;
-  sound = opt_sound begins g;
-  complete = opt_complete begins g;
-  takes = opt_takes begins g;
-  balanced = opt_balanced begins g;
+  sound = opt_sound (λ r. run test r) g;
+  complete = opt_complete (λ r. run test r) g;
+  takes = opt_takes (λ r. run test r) g;
+  balanced = opt_balanced (λ r. run test r) g;
+  asks = also (begun true test g) (ask false test);
+  moves = opt_moves test g;
 }
 
 -- ---- shorter names
@@ -92,7 +104,7 @@ word w = one (word_only w) (refl, refl)
 
 -- word?, as whether the word is present
 abbrev pub flag : List ℕ → Production Bool
-flag w = made (λ o. is_some o) (opt (begins_word w) (word w))
+flag w = made (λ o. is_some o) (opt (at_word w) (word w))
 
 -- @name
 abbrev pub annotation_token : List ℕ → Production (Unit {0})

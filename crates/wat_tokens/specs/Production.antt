@@ -1,6 +1,7 @@
 -- Productions: which tokens spell a value, and how a reader reads them.
 use Rattle.std.specs.Prelude.{◌≡◌, ℕ, ◌≤◌, List, ◌++◌, length, Option, Some, None}
 use Rattle.wat_lexer.specs.Token.{Tok}
+use Rattle.wat_tokens.specs.Asks.{Asks, Alike}
 use Rattle.wat_tokens.specs.Parens.{AreBalanced}
 
 -- a value and the tokens after it
@@ -21,6 +22,8 @@ Front spells t x = (c : List Tok) × (t ≡ c ++ x.1) × spells x.0 c x.1
 -- reads t: the value that a prefix of t spells, and the tokens after it.
 -- sound, complete: the reader and the relation agree.
 -- takes: a value takes at least `least` tokens. balanced: its parentheses are balanced.
+-- asks: what the production asks of the rest. moves: tokens that spell v before one rest spell v
+-- before each alike rest.
 pub record Production (A : Type 0) : Type 1 where
   pub spells : A → List Tok → List Tok → Type 0
   pub reads : List Tok → Read A
@@ -29,6 +32,8 @@ pub record Production (A : Type 0) : Type 1 where
   pub complete : (v : A) (c r : List Tok) → spells v c r → reads (c ++ r) ≡ Some (v, r)
   pub takes : (v : A) (c r : List Tok) → spells v c r → least ≤ length c
   pub balanced : (v : A) (c r : List Tok) → spells v c r → AreBalanced c
+  pub asks : Asks
+  pub moves : (v : A) (c r s : List Tok) → Alike asks r s → spells v c r → spells v c s
 
 abbrev pub some_of : {A : Type 0} → A × List Tok → Read A
 some_of x = Some x

@@ -15,4 +15,6 @@ restated g Spells to from = record {
   complete = λ v c r s. g.complete v c r (from v c r s);
   takes = λ v c r s. g.takes v c r (from v c r s);
   balanced = λ v c r s. g.balanced v c r (from v c r s);
+  asks = g.asks;
+  moves = λ v c r u a s. to v c u (g.moves v c r u a (from v c r s));
 }

@@ -1,8 +1,10 @@
 -- Tests of one token, and of the next tokens.
-use Rattle.std.specs.Prelude.{ℕ, Bool, true, false, not, if◌then◌else◌, List, [], ◌∷◌, Option, Some}
-use Rattle.std.specs.Prelude.{None}
+use Rattle.std.specs.Prelude.{ℕ, Bool, true, false, not, ◌&&◌, if◌then◌else◌, List, [], ◌∷◌, Option}
+use Rattle.std.specs.Prelude.{Some, None}
 use Rattle.std.specs.Str.{bytes_eq}
 use Rattle.wat_lexer.specs.Token.{Tok, LParen, RParen, Keyword, Id, Annotation, Integer, String}
+use Rattle.wat_tokens.specs.Kind.{a_lparen, an_id, an_integer, a_string, a_word, an_annotation}
+use Rattle.wat_tokens.specs.Kind.{next_is}
 
 -- ---- one token
 
@@ -63,32 +65,35 @@ word_in table _ = None
 
 -- ---- the next tokens
 
+-- a test of the tokens after the next token; false at the end
+abbrev pub second : (List Tok → Bool) → List Tok → Bool
+second test [] = false
+second test (x ∷ r) = test r
+
+-- a `(`
+abbrev pub begins_lparen : List Tok → Bool
+begins_lparen t = next_is a_lparen t
+
 -- the word
 abbrev pub begins_word : List ℕ → List Tok → Bool
-begins_word w (Keyword k ∷ r) = bytes_eq k w
-begins_word w _ = false
+begins_word w t = next_is (a_word w) t
 
 -- a group that begins with the word
 abbrev pub begins_group : List ℕ → List Tok → Bool
-begins_group w (LParen ∷ Keyword k ∷ r) = bytes_eq k w
-begins_group w _ = false
+begins_group w t = begins_lparen t && second (begins_word w) t
 
 -- a group that begins with the annotation of the name
 abbrev pub begins_annotation : List ℕ → List Tok → Bool
-begins_annotation name (LParen ∷ Annotation n ∷ r) = bytes_eq n name
-begins_annotation name _ = false
+begins_annotation name t = begins_lparen t && second (next_is (an_annotation name)) t
 
 abbrev pub begins_id : List Tok → Bool
-begins_id (Id n ∷ r) = true
-begins_id _ = false
+begins_id t = next_is an_id t
 
 abbrev pub begins_integer : List Tok → Bool
-begins_integer (Integer text ∷ r) = true
-begins_integer _ = false
+begins_integer t = next_is an_integer t
 
 abbrev pub begins_string : List Tok → Bool
-begins_string (String s ∷ r) = true
-begins_string _ = false
+begins_string t = next_is a_string t
 
 -- no token
 abbrev pub none_left : List Tok → Bool
@@ -104,13 +109,3 @@ ends (_ ∷ r) = false
 -- the group goes on
 abbrev pub more : List Tok → Bool
 more t = not (ends t)
-
--- a test of the tokens after the next token; false at the end
-abbrev pub second : (List Tok → Bool) → List Tok → Bool
-second test [] = false
-second test (x ∷ r) = test r
-
--- a `(`
-abbrev pub begins_lparen : List Tok → Bool
-begins_lparen (LParen ∷ r) = true
-begins_lparen _ = false

@@ -7,9 +7,10 @@ ghost use Rattle.std.specs.Hash as fed;
 ghost use Rattle.std.specs.Str.{bytes_eq};
 ghost use Rattle.std.proofs.Common.{ap};
 ghost use Rattle.wat_tokens.specs.Index.{name_of, span_of, identifier, Idx, index_view, index};
-ghost use Rattle.wat_tokens.specs.Index.{begins_index, same_index, index_writes};
+ghost use Rattle.wat_tokens.specs.Index.{at_index, begins_index, same_index, index_writes};
 ghost use Rattle.wat_tokens.specs.Laws.Index.{same_index_decides};
 ghost use Rattle.wat_tokens.specs.Lookup.{in_front};
+ghost use Rattle.wat_tokens.specs.Test.{at_id};
 ghost use Rattle.wat_tokens.specs.Tests.{begins_id};
 ghost use Rattle.wat_tokens.specs.Views.{plain};
 
@@ -165,7 +166,7 @@ impl<'a> Parse<'a> for Id<'a> {
 
 /// Any identifier.
 impl<'p> Peek for Id<'p> {
-    ghost begins = { begins_id };
+    ghost begins = { at_id };
 
     fn peek(cursor: Cursor<'_>) -> bool
         ensures { result ≡ begins_id (in_front cursor.entry) }
@@ -200,7 +201,7 @@ impl<'a> Parse<'a> for Index<'a> {
 
 /// An identifier, or an integer of any value.
 impl<'p> Peek for Index<'p> {
-    ghost begins = { begins_index };
+    ghost begins = { at_index };
 
     fn peek(cursor: Cursor<'_>) -> bool
         ensures { result ≡ begins_index (in_front cursor.entry) }

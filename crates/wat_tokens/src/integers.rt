@@ -5,7 +5,7 @@ ghost use Rattle.wat_lexer.specs.Integer.{text_of};
 ghost use Rattle.wat_lexer.specs.Number.{is_width};
 ghost use Rattle.wat_tokens.specs.Integers.{integer, unsigned, signed};
 ghost use Rattle.wat_tokens.specs.Reads.{Reads};
-ghost use Rattle.wat_tokens.specs.Tests.{begins_integer};
+ghost use Rattle.wat_tokens.specs.Test.{at_integer};
 ghost use Rattle.wat_tokens.specs.Views.{plain};
 
 use crate::cursor::Cursor;
@@ -60,7 +60,7 @@ impl<'a> Parse<'a> for u8 {
 
 /// Any integer, also an integer that is out of range.
 impl Peek for u8 {
-    ghost begins = { begins_integer };
+    ghost begins = { at_integer };
 
     fn peek(cursor: Cursor<'_>) -> bool {
         cursor.integer().is_some()
@@ -89,7 +89,7 @@ impl<'a> Parse<'a> for u16 {
 
 /// Any integer, also an integer that is out of range.
 impl Peek for u16 {
-    ghost begins = { begins_integer };
+    ghost begins = { at_integer };
 
     fn peek(cursor: Cursor<'_>) -> bool {
         cursor.integer().is_some()
@@ -118,7 +118,7 @@ impl<'a> Parse<'a> for u32 {
 
 /// Any integer, also an integer that is out of range.
 impl Peek for u32 {
-    ghost begins = { begins_integer };
+    ghost begins = { at_integer };
 
     fn peek(cursor: Cursor<'_>) -> bool {
         cursor.integer().is_some()
@@ -147,7 +147,7 @@ impl<'a> Parse<'a> for u64 {
 
 /// Any integer, also an integer that is out of range.
 impl Peek for u64 {
-    ghost begins = { begins_integer };
+    ghost begins = { at_integer };
 
     fn peek(cursor: Cursor<'_>) -> bool {
         cursor.integer().is_some()
@@ -190,7 +190,7 @@ impl<'a> Parse<'a> for i8 {
 
 /// Any integer, also an integer that is out of range.
 impl Peek for i8 {
-    ghost begins = { begins_integer };
+    ghost begins = { at_integer };
 
     fn peek(cursor: Cursor<'_>) -> bool {
         cursor.integer().is_some()
@@ -220,7 +220,7 @@ impl<'a> Parse<'a> for i16 {
 
 /// Any integer, also an integer that is out of range.
 impl Peek for i16 {
-    ghost begins = { begins_integer };
+    ghost begins = { at_integer };
 
     fn peek(cursor: Cursor<'_>) -> bool {
         cursor.integer().is_some()
@@ -250,7 +250,7 @@ impl<'a> Parse<'a> for i32 {
 
 /// Any integer, also an integer that is out of range.
 impl Peek for i32 {
-    ghost begins = { begins_integer };
+    ghost begins = { at_integer };
 
     fn peek(cursor: Cursor<'_>) -> bool {
         cursor.integer().is_some()
@@ -280,7 +280,7 @@ impl<'a> Parse<'a> for i64 {
 
 /// Any integer, also an integer that is out of range.
 impl Peek for i64 {
-    ghost begins = { begins_integer };
+    ghost begins = { at_integer };
 
     fn peek(cursor: Cursor<'_>) -> bool {
         cursor.integer().is_some()

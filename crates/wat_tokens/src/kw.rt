@@ -3,7 +3,7 @@
 ghost use Rattle.std.specs.Prelude.{◌≡◌, codes};
 ghost use Rattle.wat_tokens.specs.Parts.{word};
 ghost use Rattle.wat_tokens.specs.Place.{offset_of};
-ghost use Rattle.wat_tokens.specs.Tests.{begins_word};
+ghost use Rattle.wat_tokens.specs.Test.{at_word};
 ghost use Rattle.wat_tokens.specs.Views.{plain};
 
 use crate::cursor::Cursor;
@@ -39,7 +39,7 @@ impl<'a> Parse<'a> for func {
 }
 
 impl Peek for func {
-    ghost begins = { λ t. begins_word (codes "func") t };
+    ghost begins = { at_word (codes "func") };
 
     fn peek(cursor: Cursor<'_>) -> bool {
         cursor.keyword_is("func")
@@ -77,7 +77,7 @@ impl<'a> Parse<'a> for table {
 }
 
 impl Peek for table {
-    ghost begins = { λ t. begins_word (codes "table") t };
+    ghost begins = { at_word (codes "table") };
 
     fn peek(cursor: Cursor<'_>) -> bool {
         cursor.keyword_is("table")
@@ -115,7 +115,7 @@ impl<'a> Parse<'a> for memory {
 }
 
 impl Peek for memory {
-    ghost begins = { λ t. begins_word (codes "memory") t };
+    ghost begins = { at_word (codes "memory") };
 
     fn peek(cursor: Cursor<'_>) -> bool {
         cursor.keyword_is("memory")
@@ -153,7 +153,7 @@ impl<'a> Parse<'a> for global {
 }
 
 impl Peek for global {
-    ghost begins = { λ t. begins_word (codes "global") t };
+    ghost begins = { at_word (codes "global") };
 
     fn peek(cursor: Cursor<'_>) -> bool {
         cursor.keyword_is("global")
@@ -191,7 +191,7 @@ impl<'a> Parse<'a> for tag {
 }
 
 impl Peek for tag {
-    ghost begins = { λ t. begins_word (codes "tag") t };
+    ghost begins = { at_word (codes "tag") };
 
     fn peek(cursor: Cursor<'_>) -> bool {
         cursor.keyword_is("tag")

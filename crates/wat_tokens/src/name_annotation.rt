@@ -2,7 +2,7 @@
 
 ghost use Rattle.std.specs.Prelude.{◌≡◌, List, ℕ};
 ghost use Rattle.wat_tokens.specs.Lookup.{in_front};
-ghost use Rattle.wat_tokens.specs.NameAnnotation.{name_annotation, begins_name};
+ghost use Rattle.wat_tokens.specs.NameAnnotation.{at_name, name_annotation, begins_name};
 ghost use Rattle.wat_tokens.specs.Views.{plain};
 
 use crate::cursor::Cursor;
@@ -40,7 +40,7 @@ impl<'a> Parse<'a> for NameAnnotation<'a> {
 
 /// A `(`, and the annotation `name`.
 impl<'p> Peek for NameAnnotation<'p> {
-    ghost begins = { begins_name };
+    ghost begins = { at_name };
 
     fn peek(cursor: Cursor<'_>) -> bool
         ensures { result ≡ begins_name (in_front cursor.entry) }

@@ -8,6 +8,7 @@ ghost use Rattle.wat_tokens.specs.Many.{after_front, Extends};
 ghost use Rattle.wat_tokens.specs.ManySpells.{many_reads};
 ghost use Rattle.wat_tokens.specs.Production.{Production};
 ghost use Rattle.wat_tokens.specs.Reads.{Call, ReadsAt};
+ghost use Rattle.wat_tokens.specs.Test.{run};
 ghost use Rattle.wat_tokens.specs.Tests.{more};
 ghost use Rattle.wat_tokens.specs.Views.{ViewOf, owning, no_items};
 
@@ -144,7 +145,7 @@ impl<'a, T: Parse<'a> + Peek> Part<'a, T> for WhileBegun {
 
     ghost grammar = { T.grammar };
 
-    ghost follows = { T.begins };
+    ghost follows = { λ r. run T.begins r };
 
     fn follows(parser: &Parser<'a>) -> bool {
         parser.peek::<T>()
@@ -178,8 +179,8 @@ pub fn while_begun<'a, T: Parse<'a> + Peek + Drop>(
 ) -> Result<(), Error>
     requires { 1 ≤ T.grammar.least }
     ensures reads { Call T.cost (owning (λ _. map T.view.of out.new.items) no_items)
-        (after_front (map T.view.of out.old.items) (many_reads T.begins T.grammar parser.old.left))
-        result parser.old parser.new }
+        (after_front (map T.view.of out.old.items) (many_reads (λ r. run T.begins r) T.grammar
+        parser.old.left)) result parser.old parser.new }
     ensures kept { Extends out.old.items out.new.items }
 {
     parts::<T, WhileBegun>(parser, out)

@@ -3,6 +3,7 @@
 ghost use Rattle.std.specs.Prelude.{◌≡◌, List, ℕ};
 ghost use Rattle.wat_tokens.specs.Lookup.{in_front};
 ghost use Rattle.wat_tokens.specs.Strings.{string, text};
+ghost use Rattle.wat_tokens.specs.Test.{at_string};
 ghost use Rattle.wat_tokens.specs.Tests.{begins_string};
 ghost use Rattle.wat_tokens.specs.Views.{plain};
 
@@ -27,7 +28,7 @@ impl<'a> Parse<'a> for &'a [u8] {
 
 /// Any string.
 impl<'p> Peek for &'p [u8] {
-    ghost begins = { begins_string };
+    ghost begins = { at_string };
 
     fn peek(cursor: Cursor<'_>) -> bool
         ensures { result ≡ begins_string (in_front cursor.entry) }
@@ -61,7 +62,7 @@ impl<'a> Parse<'a> for &'a str {
 
 /// Any string, also a string that isn't UTF-8.
 impl<'p> Peek for &'p str {
-    ghost begins = { begins_string };
+    ghost begins = { at_string };
 
     fn peek(cursor: Cursor<'_>) -> bool
         ensures { result ≡ begins_string (in_front cursor.entry) }

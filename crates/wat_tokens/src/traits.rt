@@ -1,7 +1,6 @@
 //! The traits of types that can be read, and of types that can be recognized by lookahead.
 
-ghost use Rattle.std.specs.Prelude.{◌≡◌, List, Bool, IfErr, true};
-ghost use Rattle.wat_lexer.specs.Token.{Tok};
+ghost use Rattle.std.specs.Prelude.{◌≡◌, IfErr, true};
 ghost use Rattle.wat_tokens.specs.Cost.{Cost, tokens_alone, Costs};
 ghost use Rattle.wat_tokens.specs.Counts.{Counted, Turned, SameSettings};
 ghost use Rattle.wat_tokens.specs.Error.{Memory};
@@ -10,6 +9,7 @@ ghost use Rattle.wat_tokens.specs.Outcome.{ReadsPrefix, TakesPrefix};
 ghost use Rattle.wat_tokens.specs.Parses.{Gives};
 ghost use Rattle.wat_tokens.specs.Production.{Production};
 ghost use Rattle.wat_tokens.specs.Reads.{ReadsAt};
+ghost use Rattle.wat_tokens.specs.Test.{Test, run};
 ghost use Rattle.wat_tokens.specs.Tests.{second};
 ghost use Rattle.wat_tokens.specs.Views.{ViewOf};
 
@@ -46,16 +46,16 @@ pub trait Parse<'a>: Sized {
 /// A type whose values are recognized by their first tokens.
 pub trait Peek {
     /// Which tokens begin a value.
-    ghost begins: { List Tok → Bool };
+    ghost begins: { Test };
 
     /// Returns whether the tokens at the cursor begin a value.
     fn peek(cursor: Cursor<'_>) -> bool
-        ensures { result ≡ begins (in_front cursor.entry) };
+        ensures { result ≡ run begins (in_front cursor.entry) };
 
     /// Returns whether the tokens after the cursor's next token begin a value. Returns false if no
     /// token is left.
     fn peek2(cursor: Cursor<'_>) -> bool
-        ensures { result ≡ second begins (in_front cursor.entry) }
+        ensures { result ≡ second (λ r. run begins r) (in_front cursor.entry) }
     {
         match cursor.any() {
             Some(rest) => Self::peek(rest),
@@ -94,7 +94,7 @@ impl<'a> Parser<'a> {
     /// Returns whether the next tokens begin a `T`.
     #[inline(always)]
     pub fn peek<T: Peek>(&self) -> bool
-        ensures { result ≡ T.begins self.now.left }
+        ensures { result ≡ run T.begins self.now.left }
     {
         T::peek(self.cursor())
     }
@@ -103,7 +103,7 @@ impl<'a> Parser<'a> {
     /// left.
     #[inline(always)]
     pub fn peek2<T: Peek>(&self) -> bool
-        ensures { result ≡ second T.begins self.now.left }
+        ensures { result ≡ second (λ r. run T.begins r) self.now.left }
     {
         T::peek2(self.cursor())
     }

@@ -1,7 +1,7 @@
 //! Values that keywords name.
 
 ghost use Rattle.std.specs.Prelude.{◌≡◌, ℕ, List};
-ghost use Rattle.wat_tokens.specs.Begin.{begins_one_of};
+ghost use Rattle.wat_tokens.specs.Test.{run, at_listed};
 ghost use Rattle.wat_tokens.specs.Lookup.{in_front};
 ghost use Rattle.wat_tokens.specs.Reads.{Takes};
 ghost use Rattle.wat_tokens.specs.Tests.{look_up, word_in};
@@ -36,7 +36,7 @@ pub fn take_named<'a, T: NamedByKeyword>(parser: &mut Parser<'a>) -> Result<T, E
 /// Returns whether the token at the cursor is a keyword that names a value.
 #[tactic(auto, using(crate::specs::Laws::Begin::table_begins))]
 pub fn begins_named<T: NamedByKeyword>(cursor: Cursor<'_>) -> bool
-    ensures { result ≡ begins_one_of (word_in T.words) (in_front cursor.entry) }
+    ensures { result ≡ run (at_listed T.words) (in_front cursor.entry) }
 {
     match cursor.keyword() {
         Some((word, _)) => T::named(word).is_some(),

@@ -11,7 +11,7 @@ use Rattle.wat_types.specs.Define.{kind, linked, described, maybe_shared, type_d
 use Rattle.wat_types.specs.Exponent.{exponent}
 use Rattle.wat_types.specs.Function.{function_type, function_groups}
 use Rattle.wat_types.specs.FunctionSpells.{func_groups}
-use Rattle.wat_types.specs.Group.{plain_params, params, func_group, begins_func}
+use Rattle.wat_types.specs.Group.{plain_params, params, func_group}
 use Rattle.wat_types.specs.Label.{label}
 use Rattle.wat_types.specs.Limits.{is_64, limits_type, page_exponent, pagesize, pagesize_or_none}
 use Rattle.wat_types.specs.Reference.{shorthand, ref_type}
@@ -22,6 +22,7 @@ use Rattle.wat_types.specs.FieldType.{field_type}
 use Rattle.wat_types.specs.StructType.{struct_type}
 use Rattle.wat_types.specs.Use.{type_use}
 use Rattle.wat_types.specs.Value.{val_type}
+use Rattle.wat_types.specs.Group.{at_func}
 
 abbrev text_64k : List Tok
 text_64k = Integer (codes "65536") ∷ []
@@ -67,4 +68,4 @@ described_type = spelled_whole type_ _ _ refl
 
 pub uses : Uses
 unfolding type_use function_groups func_groups func_group params plain_params val_type label name_annotation many_at many_reads read
-uses = (spelled_whole (type_use begins_func function_type) _ _ refl, spelled_whole (type_use begins_func function_type) _ _ refl, spelled_whole (type_use begins_func function_type) _ _ refl)
+uses = (spelled_whole (type_use at_func function_type) _ _ refl, spelled_whole (type_use at_func function_type) _ _ refl, spelled_whole (type_use at_func function_type) _ _ refl)

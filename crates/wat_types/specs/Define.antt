@@ -2,12 +2,11 @@
 use Rattle.std.specs.Prelude.{ℕ, Bool, true, false, ◌&&◌, List, [], codes, Option, Some, None, map}
 use Rattle.std.proofs.Common.{lit≤}
 use Rattle.wat_tokens.specs.Token.{Tok}
-use Rattle.wat_tokens.specs.Tests.{begins_word}
 use Rattle.wat_tokens.specs.Production.{Production}
 use Rattle.wat_tokens.specs.Parts.{seq, made, where_else, opt, flag, after_word}
 use Rattle.wat_tokens.specs.Many.{many}
 use Rattle.wat_tokens.specs.Groups.{paren, turn}
-use Rattle.wat_tokens.specs.Index.{Idx, index_view, index, begins_index}
+use Rattle.wat_tokens.specs.Index.{Idx, index_view, index}
 use Rattle.wat_tokens.specs.Views.{no_items, option_view}
 use Rattle.wat_types.specs.Label.{Label, label_view, label}
 use Rattle.wat_types.specs.Group.{FuncTy}
@@ -19,6 +18,8 @@ use Rattle.wat_types.specs.declared.define.TypeDef.{TypeDef}
 use Rattle.wat_types.specs.declared.define.«Type».{«Type»}
 use Rattle.wat_types.specs.FieldType.{FieldTy, field_type}
 use Rattle.wat_types.specs.StructType.{struct_type}
+use Rattle.wat_tokens.specs.Test.{Test, at_word, run}
+use Rattle.wat_tokens.specs.Index.{at_index}
 
 -- ---- composite types
 
@@ -45,10 +46,10 @@ bare_inner_kind (cont i) = true
 -- `func` FunctionType | `struct` StructType | `array` ArrayType | `cont` ContType
 unfoldable pub kind : Production InnerKindTy
 kind =
-    where_else (begins_word (codes "func")) (made func (after_word (codes "func") function_type))
-    (where_else (begins_word (codes "struct"))
+    where_else (at_word (codes "func")) (made func (after_word (codes "func") function_type))
+    (where_else (at_word (codes "struct"))
     (made struct_ (after_word (codes "struct") struct_type))
-    (where_else (begins_word (codes "array")) (made array (after_word (codes "array") field_type))
+    (where_else (at_word (codes "array")) (made array (after_word (codes "array") field_type))
     (made cont (after_word (codes "cont") index))))
 
 -- ---- definitions
@@ -81,7 +82,7 @@ bare_def d = no_items d.parents && bare_inner_kind d.kind
 
 -- the word, an index and `) (`; no tokens if the word isn't next
 unfoldable pub linked : List ℕ → Production (Option Idx)
-linked w = opt (begins_word w) (after_word w (made (λ v. v.0) (seq index turn)))
+linked w = opt (at_word w) (after_word w (made (λ v. v.0) (seq index turn)))
 
 abbrev pub plain_def : Option Idx × (Option Idx × InnerKindTy) → DefTy
 plain_def v =
@@ -105,7 +106,7 @@ shared_def d = record d { shared = true }
 -- `shared (` K `)` | K
 unfoldable pub maybe_shared : Production DefTy
 maybe_shared =
-    where_else (begins_word (codes "shared"))
+    where_else (at_word (codes "shared"))
     (made shared_def (after_word (codes "shared") (paren described))) described
 
 abbrev pub sub_def : Bool × (List Idx × DefTy) → DefTy
@@ -114,9 +115,9 @@ sub_def v = record v.1.1 { parents = v.1.0; final_type = Some v.0 }
 -- `sub final? idx* (` S `)` | S
 unfoldable pub type_def : Production DefTy
 type_def =
-    where_else (begins_word (codes "sub"))
+    where_else (at_word (codes "sub"))
     (made sub_def (after_word (codes "sub")
-    (seq (flag (codes "final")) (seq (many begins_index index (lit≤ tt)) (paren maybe_shared)))))
+    (seq (flag (codes "final")) (seq (many at_index index (lit≤ tt)) (paren maybe_shared)))))
     maybe_shared
 
 -- ---- types and recursion groups
@@ -137,8 +138,11 @@ unfoldable pub type_ : Production TypeTy
 type_ = made (λ v. record { label = v.0; def = v.1 })
     (after_word (codes "type") (seq label (paren type_def)))
 
+abbrev pub at_type : Test
+at_type = at_word (codes "type")
+
 abbrev pub begins_type : List Tok → Bool
-begins_type t = begins_word (codes "type") t
+begins_type t = run at_type t
 
 abbrev pub types_view : List «Type» → List TypeTy
 types_view ts = map type_view ts

@@ -4,14 +4,15 @@ use Rattle.wat_tokens.specs.Token.{Tok}
 use Rattle.wat_tokens.specs.Production.{Production}
 use Rattle.wat_tokens.specs.Parts.{made_where}
 use Rattle.wat_tokens.specs.Many.{many}
-use Rattle.wat_types.specs.Group.{Group, func_group, group_follows, params_in, results_in, FuncTy}
+use Rattle.wat_types.specs.Group.{Group, func_group, params_in, results_in, FuncTy}
 use Rattle.wat_types.specs.Group.{merged, InOrder, unlabelled}
 use Rattle.wat_types.specs.Order.{in_order}
 use Rattle.wat_types.specs.Laws.Group.{func_group_consumes}
+use Rattle.wat_types.specs.Group.{at_next_group}
 
 -- groups, as long as the second token is `param` or `result`
 unfoldable pub func_groups : Bool → Production (List Group)
-func_groups labels = many group_follows (func_group labels) (func_group_consumes labels)
+func_groups labels = many at_next_group (func_group labels) (func_group_consumes labels)
 
 -- groups, with no result group with a type before a param group; params and results are the
 -- concatenations in order

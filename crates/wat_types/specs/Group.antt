@@ -2,14 +2,16 @@
 use Rattle.std.specs.Prelude.{Bool, true, not, ◌&&◌, ◌||◌, List, [], ◌∷◌, codes, flat_map, AllPairs}
 use Rattle.std.specs.Prelude.{⊤}
 use Rattle.wat_tokens.specs.Token.{Tok}
-use Rattle.wat_tokens.specs.Tests.{begins_word, begins_group, more, second}
+use Rattle.wat_tokens.specs.Tests.{begins_word}
 use Rattle.wat_tokens.specs.Production.{Production}
 use Rattle.wat_tokens.specs.Parts.{seq, made, where_else}
 use Rattle.wat_tokens.specs.Many.{many}
 use Rattle.wat_tokens.specs.Groups.{group}
 use Rattle.wat_types.specs.Value.{ValTy, val_type}
-use Rattle.wat_types.specs.Label.{Label, no_label, labelled, label, begins_label}
+use Rattle.wat_types.specs.Label.{Label, no_label, labelled, label}
 use Rattle.wat_types.specs.Laws.Value.{val_type_consumes}
+use Rattle.wat_tokens.specs.Test.{Test, either_test, if_test, at_group, at_more, second_word, run}
+use Rattle.wat_types.specs.Label.{at_label}
 
 -- a parameter with its label
 pub record ParamTy : Type 0 where
@@ -27,17 +29,17 @@ plain_param_only = made plain_param val_type
 
 -- ValType*
 unfoldable pub plain_params : Production (List ParamTy)
-plain_params = many more plain_param_only val_type_consumes
+plain_params = many at_more plain_param_only val_type_consumes
 
 -- id? name? ValType if labels are allowed and a label begins; else ValType*
 unfoldable pub params : Bool → Production (List ParamTy)
 params labels =
-    where_else (λ t. labels && begins_label t) (made labelled_param (seq label val_type))
+    where_else (if_test labels at_label) (made labelled_param (seq label val_type))
     plain_params
 
 -- ValType*
 unfoldable pub val_types : Production (List ValTy)
-val_types = many more val_type val_type_consumes
+val_types = many at_more val_type val_type_consumes
 
 pub data Group : Type 0 where
   param : List ParamTy → Group
@@ -47,7 +49,7 @@ pub data Group : Type 0 where
 -- ValType* )
 unfoldable pub func_group : Bool → Production Group
 func_group labels =
-    where_else (begins_group (codes "param")) (made param (group (codes "param") (params labels)))
+    where_else (at_group (codes "param")) (made param (group (codes "param") (params labels)))
     (made result (group (codes "result") val_types))
 
 -- `param` or `result`
@@ -55,12 +57,18 @@ abbrev pub begins_group_word : List Tok → Bool
 begins_group_word t = begins_word (codes "param") t || begins_word (codes "result") t
 
 -- one more group has to follow: the second token is `param` or `result`, for any first token
+abbrev pub at_next_group : Test
+at_next_group = either_test (second_word (codes "param")) (second_word (codes "result"))
+
 abbrev pub group_follows : List Tok → Bool
-group_follows t = second (begins_word (codes "param")) t || second (begins_word (codes "result")) t
+group_follows t = run at_next_group t
 
 -- a function type begins: `(` and `param` or `result`
+abbrev pub at_func : Test
+at_func = either_test (at_group (codes "param")) (at_group (codes "result"))
+
 abbrev pub begins_func : List Tok → Bool
-begins_func t = begins_group (codes "param") t || begins_group (codes "result") t
+begins_func t = run at_func t
 
 -- no parameter has a label
 abbrev pub unlabelled : List ParamTy → Bool

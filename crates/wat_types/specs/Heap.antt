@@ -1,16 +1,17 @@
 -- Heap types.
-use Rattle.std.specs.Prelude.{ℕ, Bool, true, false, ◌||◌, List, [], ◌∷◌, codes, refl}
+use Rattle.std.specs.Prelude.{ℕ, Bool, true, false, List, [], ◌∷◌, codes, refl}
 use Rattle.wat_tokens.specs.Token.{Tok}
-use Rattle.wat_tokens.specs.Tests.{word_in, begins_group}
+use Rattle.wat_tokens.specs.Tests.{word_in}
 use Rattle.wat_tokens.specs.Production.{Production}
 use Rattle.wat_tokens.specs.Parts.{one, made, where_else}
 use Rattle.wat_tokens.specs.Groups.{group}
-use Rattle.wat_tokens.specs.Begin.{begins_one_of}
-use Rattle.wat_tokens.specs.Index.{Idx, index_view, index, begins_index}
+use Rattle.wat_tokens.specs.Index.{Idx, index_view, index}
 use Rattle.wat_types.specs.declared.heap.AbstractHeapType.{AbstractHeapType}
 use Rattle.wat_types.specs.declared.heap.AbstractHeapType.TheVariants as word
 use Rattle.wat_types.specs.declared.heap.HeapType.{HeapType}
 use Rattle.wat_types.specs.declared.heap.HeapType.TheVariants as code
+use Rattle.wat_tokens.specs.Test.{Test, run, either_test, at_group, at_listed}
+use Rattle.wat_tokens.specs.Index.{at_index}
 
 -- ---- abstract heap types
 
@@ -46,8 +47,11 @@ unfoldable pub abstract_heap_type : Production AbstractHeapType
 abstract_heap_type = one (word_in abstract_words) (refl, refl)
 
 -- one of the keywords
-unfoldable pub begins_abstract : List Tok → Bool
-begins_abstract t = begins_one_of (word_in abstract_words) t
+unfoldable pub at_abstract : Test
+at_abstract = at_listed abstract_words
+
+abbrev pub begins_abstract : List Tok → Bool
+begins_abstract t = run at_abstract t
 
 -- ---- heap types
 
@@ -65,13 +69,16 @@ heap_view (code.Exact i) = exact (index_view i)
 -- idx | ( exact idx ) | ( shared abstract ) | abstract
 unfoldable pub heap_type : Production HeapTy
 heap_type =
-    where_else begins_index (made concrete index)
-    (where_else (begins_group (codes "exact")) (made exact (group (codes "exact") index))
-    (where_else (begins_group (codes "shared"))
+    where_else at_index (made concrete index)
+    (where_else (at_group (codes "exact")) (made exact (group (codes "exact") index))
+    (where_else (at_group (codes "shared"))
     (made (λ t. abstract_ true t) (group (codes "shared") abstract_heap_type))
     (made (λ t. abstract_ false t) abstract_heap_type)))
 
 -- an abstract word, or `(` and `shared` or `type`
+abbrev pub at_heap : Test
+at_heap =
+    either_test at_abstract (either_test (at_group (codes "shared")) (at_group (codes "type")))
+
 abbrev pub begins_heap : List Tok → Bool
-begins_heap t =
-    begins_abstract t || (begins_group (codes "shared") t || begins_group (codes "type") t)
+begins_heap t = run at_heap t

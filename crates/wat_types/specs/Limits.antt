@@ -1,6 +1,5 @@
 -- Limits, page sizes, table types and memory types.
 use Rattle.std.specs.Prelude.{ℕ, Bool, true, false, codes, Option}
-use Rattle.wat_tokens.specs.Tests.{begins_word, begins_group, begins_integer}
 use Rattle.wat_tokens.specs.Production.{Production}
 use Rattle.wat_tokens.specs.Parts.{word, seq, made, where_else, opt, flag}
 use Rattle.wat_tokens.specs.Groups.{group}
@@ -12,12 +11,13 @@ use Rattle.wat_types.specs.declared.limits.MemoryType.{MemoryType}
 use Rattle.wat_types.specs.declared.limits.TableType.{TableType}
 use Rattle.wat_types.specs.PageSize.{ExponentSpells, exponent_tested}
 use Rattle.wat_types.specs.Laws.Limits.{exponent_to, exponent_from}
+use Rattle.wat_tokens.specs.Test.{at_word, at_group, at_integer}
 
 -- ---- limits
 
 -- ( i32 | i64 )?, as whether the word is `i64`
 unfoldable pub is_64 : Production Bool
-is_64 = where_else (begins_word (codes "i64")) (made (λ _. true) (word (codes "i64")))
+is_64 = where_else (at_word (codes "i64")) (made (λ _. true) (word (codes "i64")))
     (made (λ _. false) (flag (codes "i32")))
 
 abbrev pub limits_of : Bool × (ℕ × Option ℕ) → Limits
@@ -25,7 +25,7 @@ limits_of v = record { is64 = v.0; min = v.1.0; max = v.1.1 }
 
 -- ( i32 | i64 )? u64 u64?; the second number is present if the next token is any integer
 unfoldable pub limits_type : Production Limits
-limits_type = made limits_of (seq is_64 (seq (unsigned 64) (opt begins_integer (unsigned 64))))
+limits_type = made limits_of (seq is_64 (seq (unsigned 64) (opt at_integer (unsigned 64))))
 
 -- ---- page sizes
 
@@ -39,7 +39,7 @@ pagesize = group (codes "pagesize") page_exponent
 
 -- pagesize?, absent if the next two tokens aren't `(` and `pagesize`
 unfoldable pub pagesize_or_none : Production (Option ℕ)
-pagesize_or_none = opt (begins_group (codes "pagesize")) pagesize
+pagesize_or_none = opt (at_group (codes "pagesize")) pagesize
 
 -- ---- table types
 

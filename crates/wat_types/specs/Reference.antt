@@ -1,12 +1,11 @@
 -- Reference types.
-use Rattle.std.specs.Prelude.{ℕ, Bool, true, false, ◌||◌, List, [], ◌∷◌, codes, Option, Some, None}
+use Rattle.std.specs.Prelude.{ℕ, Bool, true, false, List, [], ◌∷◌, codes, Option, Some, None}
 use Rattle.std.specs.Prelude.{refl}
 use Rattle.wat_tokens.specs.Token.{Tok}
-use Rattle.wat_tokens.specs.Tests.{word_in, begins_group}
+use Rattle.wat_tokens.specs.Tests.{word_in}
 use Rattle.wat_tokens.specs.Production.{Production}
 use Rattle.wat_tokens.specs.Parts.{one, seq, made, where_else, flag}
 use Rattle.wat_tokens.specs.Groups.{group}
-use Rattle.wat_tokens.specs.Begin.{begins_one_of}
 use Rattle.wat_types.specs.Heap.{HeapTy, abstract_, heap_view, heap_type}
 use Rattle.wat_types.specs.declared.heap.AbstractHeapType.{AbstractHeapType}
 use Rattle.wat_types.specs.declared.heap.AbstractHeapType.TheVariants as word
@@ -14,6 +13,7 @@ use Rattle.wat_types.specs.declared.heap.HeapType.{HeapType}
 use Rattle.wat_types.specs.declared.heap.HeapType.TheVariants as code
 use Rattle.wat_types.specs.declared.reference.RefType.{RefType}
 use Rattle.wat_types.specs.declared.reference.Shorthand.{Shorthand}
+use Rattle.wat_tokens.specs.Test.{Test, run, either_test, at_group, at_listed}
 
 -- a reference type, without the positions of indices
 pub record RefTy : Type 0 where
@@ -44,8 +44,11 @@ unfoldable pub shorthand : Production AbstractHeapType
 shorthand = made (λ s. s.0) (one (word_in shorthand_words) (refl, refl))
 
 -- one of the shorthands
-unfoldable pub begins_shorthand : List Tok → Bool
-begins_shorthand t = begins_one_of (word_in shorthand_words) t
+unfoldable pub at_shorthand : Test
+at_shorthand = at_listed shorthand_words
+
+abbrev pub begins_shorthand : List Tok → Bool
+begins_shorthand t = run at_shorthand t
 
 -- the reference type of a shorthand for the heap type, shared or not
 abbrev pub short : Bool → AbstractHeapType → RefTy
@@ -54,20 +57,26 @@ short shared t = record { nullable = true; heap = abstract_ shared t }
 -- ( ref null? HeapType ) | ( shared shorthand ) | shorthand
 unfoldable pub ref_type : Production RefTy
 ref_type =
-    where_else (begins_group (codes "ref"))
+    where_else (at_group (codes "ref"))
     (made (λ v. record { nullable = v.0; heap = v.1 })
     (group (codes "ref") (seq (flag (codes "null")) heap_type)))
-    (where_else (begins_group (codes "shared"))
+    (where_else (at_group (codes "shared"))
     (made (short true) (group (codes "shared") shorthand))
     (made (short false) shorthand))
 
 -- `(` and `ref` or `shared`
+abbrev pub at_long_ref : Test
+at_long_ref = either_test (at_group (codes "ref")) (at_group (codes "shared"))
+
 abbrev pub begins_long_ref : List Tok → Bool
-begins_long_ref t = begins_group (codes "ref") t || begins_group (codes "shared") t
+begins_long_ref t = run at_long_ref t
 
 -- a shorthand, or `(` and `ref` or `shared`
+abbrev pub at_ref : Test
+at_ref = either_test at_shorthand at_long_ref
+
 abbrev pub begins_ref : List Tok → Bool
-begins_ref t = begins_shorthand t || begins_long_ref t
+begins_ref t = run at_ref t
 
 -- ---- types that are not read from a text
 

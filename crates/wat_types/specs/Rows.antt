@@ -5,7 +5,7 @@ use Rattle.wat_tokens.specs.Index.{number, name}
 use Rattle.wat_tokens.specs.Spelled.{in_parens, Spelled}
 use Rattle.wat_types.specs.Define.{func, struct_, array, cont, type_def, type_}
 use Rattle.wat_types.specs.Function.{function_type}
-use Rattle.wat_types.specs.Group.{plain_param, function_of, empty_function, begins_func}
+use Rattle.wat_types.specs.Group.{plain_param, function_of, empty_function}
 use Rattle.wat_types.specs.Label.{label_of, no_label}
 use Rattle.wat_types.specs.Limits.{limits_type, pagesize_or_none}
 use Rattle.wat_types.specs.Reference.{short}
@@ -17,6 +17,7 @@ use Rattle.wat_types.specs.StructType.{struct_type}
 use Rattle.wat_types.specs.Use.{use_of, type_use}
 use Rattle.wat_types.specs.Value.{ref, i32, i64}
 use Rattle.wat_types.specs.declared.heap.AbstractHeapType.TheVariants as word
+use Rattle.wat_types.specs.Group.{at_func}
 
 abbrev shared_funcref : List Tok
 shared_funcref = in_parens (Keyword (codes "shared") ∷ Keyword (codes "funcref") ∷ [])
@@ -123,8 +124,8 @@ type_3 = in_parens (Keyword (codes "type") ∷ Integer (codes "3") ∷ [])
 -- `(type 3) (param i32)`, `(type 3)`, and no tokens
 abbrev pub Uses : Type 0
 Uses =
-    Spelled (type_use begins_func function_type)
+    Spelled (type_use at_func function_type)
     (type_3 ++ in_parens (Keyword (codes "param") ∷ Keyword (codes "i32") ∷ []))
     (use_of (Some (number 3)) (Some (function_of (plain_param i32 ∷ []) [])))
-    × Spelled (type_use begins_func function_type) type_3 (use_of (Some (number 3)) None)
-    × Spelled (type_use begins_func function_type) [] (use_of None None)
+    × Spelled (type_use at_func function_type) type_3 (use_of (Some (number 3)) None)
+    × Spelled (type_use at_func function_type) [] (use_of None None)

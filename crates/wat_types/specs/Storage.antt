@@ -1,7 +1,6 @@
 -- Storage types and global types.
-use Rattle.std.specs.Prelude.{Bool, false, ◌||◌, List, codes}
+use Rattle.std.specs.Prelude.{Bool, false, List, codes}
 use Rattle.wat_tokens.specs.Token.{Tok}
-use Rattle.wat_tokens.specs.Tests.{begins_word, second}
 use Rattle.wat_tokens.specs.Production.{Production}
 use Rattle.wat_tokens.specs.Parts.{word, seq, made, where_else, flag}
 use Rattle.wat_tokens.specs.Groups.{paren}
@@ -9,6 +8,7 @@ use Rattle.wat_types.specs.Value.{ValTy, val_view, val_type}
 use Rattle.wat_types.specs.declared.storage.StorageType.{StorageType}
 use Rattle.wat_types.specs.declared.storage.StorageType.TheVariants as code
 use Rattle.wat_types.specs.declared.storage.GlobalType.{GlobalType}
+use Rattle.wat_tokens.specs.Test.{Test, either_test, at_word, second_word, run}
 
 -- ---- storage types
 
@@ -26,8 +26,8 @@ storage_view (code.Val t) = val (val_view t)
 -- i8 | i16 | ValType
 unfoldable pub storage_type : Production StorageTy
 storage_type =
-    where_else (begins_word (codes "i8")) (made (λ _. i8) (word (codes "i8")))
-    (where_else (begins_word (codes "i16")) (made (λ _. i16) (word (codes "i16")))
+    where_else (at_word (codes "i8")) (made (λ _. i8) (word (codes "i8")))
+    (where_else (at_word (codes "i16")) (made (λ _. i16) (word (codes "i16")))
     (made val val_type))
 
 -- ---- global types
@@ -42,8 +42,11 @@ abbrev pub global_type_view : GlobalType → GlobalTy
 global_type_view t = record { ty = val_view t.ty; mutable = t.mutable; shared = t.shared }
 
 -- the second token is `shared` or `mut`, for any first token
+abbrev pub at_long_global : Test
+at_long_global = either_test (second_word (codes "shared")) (second_word (codes "mut"))
+
 abbrev pub long_global : List Tok → Bool
-long_global t = second (begins_word (codes "shared")) t || second (begins_word (codes "mut")) t
+long_global t = run at_long_global t
 
 abbrev pub global_type_of : Bool × (Bool × ValTy) → GlobalTy
 global_type_of v = record { shared = v.0; mutable = v.1.0; ty = v.1.1 }
@@ -55,6 +58,6 @@ plain_global t = record { ty = t; mutable = false; shared = false }
 -- ( shared? mut? ValType ) if the second token is `shared` or `mut`; else ValType
 unfoldable pub global_type : Production GlobalTy
 global_type =
-    where_else long_global (made global_type_of
+    where_else at_long_global (made global_type_of
     (paren (seq (flag (codes "shared")) (seq (flag (codes "mut")) val_type))))
     (made plain_global val_type)

@@ -1,17 +1,18 @@
 -- Structure and array types.
 use Rattle.std.specs.Prelude.{List, [], ◌∷◌, codes, map}
-use Rattle.wat_tokens.specs.Tests.{more}
 use Rattle.wat_tokens.specs.Production.{Production}
 use Rattle.wat_tokens.specs.Parts.{seq, made, where_else}
 use Rattle.wat_tokens.specs.Many.{many}
 use Rattle.wat_tokens.specs.Groups.{group}
-use Rattle.wat_types.specs.Label.{Label, no_label, label_view, label, begins_label}
+use Rattle.wat_types.specs.Label.{Label, no_label, label_view, label}
 use Rattle.wat_types.specs.Storage.{storage_view}
 use Rattle.wat_types.specs.declared.structure.ArrayType.{ArrayType}
 use Rattle.wat_types.specs.declared.structure.StructField.{StructField}
 use Rattle.wat_types.specs.declared.structure.StructType.{StructType}
 use Rattle.wat_types.specs.FieldType.{FieldTy, field_of, field_type}
 use Rattle.wat_types.specs.Laws.FieldType.{field_type_consumes}
+use Rattle.wat_tokens.specs.Test.{at_more}
+use Rattle.wat_types.specs.Label.{at_label}
 
 -- ---- array types
 
@@ -45,11 +46,11 @@ plain_member = made (member_of no_label) field_type
 
 -- StructField*
 unfoldable pub plain_members : Production (List MemberTy)
-plain_members = many more plain_member field_type_consumes
+plain_members = many at_more plain_member field_type_consumes
 
 -- id? name? StructField if a label begins; else StructField*
 unfoldable pub members : Production (List MemberTy)
-members = where_else begins_label (made labelled_member (seq label field_type)) plain_members
+members = where_else at_label (made labelled_member (seq label field_type)) plain_members
 
 -- ( field id? name? StructField ), with an id or a name | ( field StructField* )
 unfoldable pub member_group : Production (List MemberTy)

@@ -10,6 +10,7 @@ use Rattle.wat_tokens.specs.Views.{option_view, bare_option}
 use Rattle.wat_types.specs.declared.function.FunctionType.{FunctionType}
 use Rattle.wat_types.specs.declared.function.FunctionTypeNoNames.{FunctionTypeNoNames}
 use Rattle.wat_types.specs.declared.type_use.TypeUse.{TypeUse}
+use Rattle.wat_tokens.specs.Test.{Test, second_word}
 
 -- a type use, without the position of the index
 pub record UseTy (A : Type 0) : Type 0 where
@@ -38,8 +39,9 @@ abbrev pub type_index : Production Idx
 type_index = group (codes "type") index
 
 -- ( type idx )?, present if the second token is `type`; then T?, present if a T begins
-unfoldable pub type_use : {A : Type 0} → (List Tok → Bool) → Production A → Production (UseTy A)
-type_use begins t = made (λ v. use_of v.0 v.1) (seq (opt type_follows type_index) (opt begins t))
+unfoldable pub type_use : {A : Type 0} → Test → Production A → Production (UseTy A)
+type_use test t =
+    made (λ v. use_of v.0 v.1) (seq (opt (second_word (codes "type")) type_index) (opt test t))
 
 -- ---- other uses of the same type
 

@@ -1,13 +1,14 @@
 -- Value types.
-use Rattle.std.specs.Prelude.{◌≡◌, ℕ, Bool, ◌||◌, List, [], ◌∷◌, codes, Option, Some, None, refl}
+use Rattle.std.specs.Prelude.{◌≡◌, ℕ, Bool, List, [], ◌∷◌, codes, Option, Some, None, refl}
 use Rattle.wat_tokens.specs.Token.{Tok}
 use Rattle.wat_tokens.specs.Tests.{word_in, look_up}
 use Rattle.wat_tokens.specs.Production.{Production}
 use Rattle.wat_tokens.specs.Parts.{one, made, where_else}
-use Rattle.wat_tokens.specs.Begin.{begins_one_of}
-use Rattle.wat_types.specs.Reference.{RefTy, ref_view, ref_type, begins_shorthand, begins_long_ref}
+use Rattle.wat_types.specs.Reference.{RefTy, ref_view, ref_type}
 use Rattle.wat_types.specs.declared.value.ValType.{ValType}
 use Rattle.wat_types.specs.declared.value.ValType.TheVariants as code
+use Rattle.wat_tokens.specs.Test.{Test, run, either_test, at_listed}
+use Rattle.wat_types.specs.Reference.{at_shorthand, at_long_ref}
 
 -- a value type, without the positions of indices
 pub data ValTy : Type 0 where
@@ -35,7 +36,7 @@ plain_words =
 -- one of the five words, or a RefType
 unfoldable pub val_type : Production ValTy
 val_type =
-    where_else (begins_one_of (word_in plain_words)) (one (word_in plain_words) (refl, refl))
+    where_else (at_listed plain_words) (one (word_in plain_words) (refl, refl))
     (made ref ref_type)
 
 -- the type that the word names, if it is one of the five words
@@ -44,9 +45,15 @@ IsPlain w (Some t) = look_up plain_words w ≡ Some (val_view t)
 IsPlain w None = look_up plain_words w ≡ None
 
 -- one of the five words
-unfoldable pub begins_plain : List Tok → Bool
-begins_plain t = begins_one_of (word_in plain_words) t
+unfoldable pub at_plain : Test
+at_plain = at_listed plain_words
+
+abbrev pub begins_plain : List Tok → Bool
+begins_plain t = run at_plain t
 
 -- one of the five words, a shorthand, or `(` and `ref` or `shared`
+abbrev pub at_val : Test
+at_val = either_test at_plain (either_test at_shorthand at_long_ref)
+
 abbrev pub begins_val : List Tok → Bool
-begins_val t = begins_plain t || (begins_shorthand t || begins_long_ref t)
+begins_val t = run at_val t

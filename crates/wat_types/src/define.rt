@@ -3,7 +3,6 @@
 ghost use Rattle.std.specs.Prelude.{◌≡◌, List};
 ghost use Rattle.wat_tokens.specs.Index.{Idx, index_view, index};
 ghost use Rattle.wat_tokens.specs.Lookup.{in_front};
-ghost use Rattle.wat_tokens.specs.Many.{after_front};
 ghost use Rattle.wat_tokens.specs.Reads.{Reads};
 ghost use Rattle.wat_tokens.specs.Tests.{second};
 ghost use Rattle.wat_tokens.specs.Views.{plain, owning, no_items, option_view};
@@ -11,8 +10,9 @@ ghost use Rattle.wat_types.specs.Define.{InnerKindTy, inner_kind_view, bare_inne
 ghost use Rattle.wat_types.specs.Define.{linked, DefTy};
 ghost use Rattle.wat_types.specs.Define.{def_view, bare_def, type_def};
 ghost use Rattle.wat_types.specs.Define.{TypeTy, type_view, bare_type, type_, begins_type};
-ghost use Rattle.wat_types.specs.Define.{grouped_type, types_view};
+ghost use Rattle.wat_types.specs.Define.{grouped_type};
 ghost use Rattle.wat_types.specs.Recursion.{types, rec_view, rec};
+ghost use Rattle.wat_types.specs.Define.{at_type};
 
 use crate::function::FunctionType;
 use crate::label::take_label;
@@ -235,7 +235,7 @@ impl<'a> Parse<'a> for Type<'a> {
 
 /// A [`Type`] begins at the keyword `type`.
 impl<'p> Peek for Type<'p> {
-    ghost begins = { begins_type };
+    ghost begins = { at_type };
 
     fn peek(cursor: Cursor<'_>) -> bool
         ensures { result ≡ begins_type (in_front cursor.entry) }

@@ -18,6 +18,7 @@ ghost use Rattle.wat_types.specs.Group.{FuncTy, ParamTy, params, plain_param_onl
 ghost use Rattle.wat_types.specs.Group.{group_follows, begins_func, begins_group_word, val_types};
 ghost use Rattle.wat_types.specs.Group.{param as in_param, result as in_result};
 ghost use Rattle.wat_types.specs.Order.{add};
+ghost use Rattle.wat_types.specs.Group.{at_func};
 
 use crate::label::take_label;
 use crate::value::ValType;
@@ -212,7 +213,7 @@ impl<'a> Parse<'a> for FunctionType<'a> {
 
 /// A [`FunctionType`] begins at `( param` or `( result`. An empty function type takes no token.
 impl<'p> Peek for FunctionType<'p> {
-    ghost begins = { begins_func };
+    ghost begins = { at_func };
 
     fn peek(cursor: Cursor<'_>) -> bool
         ensures { result ≡ begins_func (in_front cursor.entry) }
@@ -264,7 +265,7 @@ impl<'a> Parse<'a> for FunctionTypeNoNames<'a> {
 
 /// A [`FunctionTypeNoNames`] begins at `( param` or `( result`, as a [`FunctionType`] does.
 impl<'p> Peek for FunctionTypeNoNames<'p> {
-    ghost begins = { begins_func };
+    ghost begins = { at_func };
 
     fn peek(cursor: Cursor<'_>) -> bool
         ensures { result ≡ begins_func (in_front cursor.entry) }

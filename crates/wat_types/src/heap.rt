@@ -4,8 +4,9 @@ ghost use Rattle.std.specs.Prelude.{◌≡◌};
 ghost use Rattle.wat_tokens.specs.Lookup.{in_front};
 ghost use Rattle.wat_tokens.specs.Views.{plain};
 ghost use Rattle.wat_types.specs.Heap.{abstract_word, abstract_words};
-ghost use Rattle.wat_types.specs.Heap.{abstract_heap_type, begins_abstract};
+ghost use Rattle.wat_types.specs.Heap.{abstract_heap_type};
 ghost use Rattle.wat_types.specs.Heap.{heap_type, HeapTy, heap_view, begins_heap};
+ghost use Rattle.wat_types.specs.Heap.{at_abstract, at_heap};
 
 use wat_tokens::enclosed::in_word_group;
 use wat_tokens::words::{NamedByKeyword, begins_named, take_named};
@@ -130,9 +131,9 @@ impl<'a> Parse<'a> for AbstractHeapType {
 
 /// An [`AbstractHeapType`] begins at one of its keywords.
 impl Peek for AbstractHeapType {
-    ghost begins = { begins_abstract };
+    ghost begins = { at_abstract };
 
-    #[tactic(auto, unfolding(crate::specs::Heap::begins_abstract))]
+    #[tactic(auto, unfolding(crate::specs::Heap::at_abstract))]
     fn peek(cursor: Cursor<'_>) -> bool {
         begins_named::<Self>(cursor)
     }
@@ -174,7 +175,7 @@ impl<'a> Parse<'a> for HeapType<'a> {
 /// True at an [`AbstractHeapType`], at `( shared` and at `( type`. False at an index and at
 /// `( exact`, though these begin a [`HeapType`] too.
 impl<'p> Peek for HeapType<'p> {
-    ghost begins = { begins_heap };
+    ghost begins = { at_heap };
 
     fn peek(cursor: Cursor<'_>) -> bool
         ensures { result ≡ begins_heap (in_front cursor.entry) }

@@ -6,6 +6,7 @@ ghost use Rattle.wat_tokens.specs.Views.{plain};
 ghost use Rattle.wat_types.specs.Reference.{RefTy, ref_type, ref_view, shorthand, shorthand_words};
 ghost use Rattle.wat_types.specs.Reference.{begins_shorthand, begins_long_ref, begins_ref};
 ghost use Rattle.wat_types.specs.Reference.{nullable_ref, shared_ref};
+ghost use Rattle.wat_types.specs.Reference.{at_ref};
 
 use crate::heap::{AbstractHeapType, HeapType};
 use wat_tokens::enclosed::in_word_group;
@@ -92,7 +93,7 @@ impl<'a> Parse<'a> for LongRef<'a> {
 }
 
 /// Returns whether the next token is a shorthand.
-#[tactic(auto, unfolding(crate::specs::Reference::begins_shorthand))]
+#[tactic(auto, using(wat_tokens::specs::Laws::Begin::table_begins), unfolding(crate::specs::Reference::at_shorthand))]
 pub(crate) fn shorthand_at(cursor: Cursor<'_>) -> bool
     ensures { result ≡ begins_shorthand (in_front cursor.entry) }
 {
@@ -266,7 +267,7 @@ impl<'a> Parse<'a> for RefType<'a> {
 
 /// A [`RefType`] begins at a shorthand, `( ref` or `( shared`.
 impl<'p> Peek for RefType<'p> {
-    ghost begins = { begins_ref };
+    ghost begins = { at_ref };
 
     fn peek(cursor: Cursor<'_>) -> bool
         ensures { result ≡ begins_ref (in_front cursor.entry) }

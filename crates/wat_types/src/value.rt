@@ -5,6 +5,7 @@ ghost use Rattle.wat_tokens.specs.Lookup.{in_front};
 ghost use Rattle.wat_tokens.specs.Views.{plain};
 ghost use Rattle.wat_types.specs.Value.{ValTy, val_view, val_type, IsPlain, begins_plain};
 ghost use Rattle.wat_types.specs.Value.{begins_val};
+ghost use Rattle.wat_types.specs.Value.{at_val};
 
 use crate::reference::{RefType, long_ref_at, shorthand_at};
 use wat_tokens::{Cursor, Parse, Parser, Peek, Result};
@@ -66,7 +67,7 @@ impl<'a> Parse<'a> for ValType<'a> {
 }
 
 /// Returns whether the next token is the keyword of a number or vector type.
-#[tactic(auto, using(wat_tokens::specs::Laws::Begin::table_begins), unfolding(crate::specs::Value::begins_plain))]
+#[tactic(auto, using(wat_tokens::specs::Laws::Begin::table_begins), unfolding(crate::specs::Value::at_plain))]
 fn plain_at(cursor: Cursor<'_>) -> bool
     ensures { result ≡ begins_plain (in_front cursor.entry) }
 {
@@ -78,7 +79,7 @@ fn plain_at(cursor: Cursor<'_>) -> bool
 
 /// A [`ValType`] begins at `i32`, `i64`, `f32`, `f64`, `v128`, or at a [`RefType`].
 impl<'p> Peek for ValType<'p> {
-    ghost begins = { begins_val };
+    ghost begins = { at_val };
 
     fn peek(cursor: Cursor<'_>) -> bool
         ensures { result ≡ begins_val (in_front cursor.entry) }

@@ -5,7 +5,7 @@ ghost use Rattle.wat_core.specs.Groups.{group};
 ghost use Rattle.wat_core.specs.Index.{name_of, identifier};
 ghost use Rattle.wat_core.specs.Parts.{opt, seq};
 ghost use Rattle.wat_core.specs.Strings.{text};
-ghost use Rattle.wat_core.specs.Tests.{begins_id};
+ghost use Rattle.wat_core.specs.Test.{at_id};
 ghost use Rattle.wat_core.specs.Views.{plain, option_view};
 
 use bumpalo::Bump;
@@ -25,7 +25,7 @@ impl<'a> Parse<'a> for Invoke<'a> {
 
     ghost view = { plain (λ i. (option_view name_of i.module, i.name.now)) };
 
-    ghost grammar = { group (codes "invoke") (seq (opt begins_id identifier) text) };
+    ghost grammar = { group (codes "invoke") (seq (opt at_id identifier) text) };
 
     fn parse(parser: &mut Parser<'a>) -> Result<Self> {
         parser.open()?;

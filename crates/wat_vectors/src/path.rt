@@ -5,7 +5,7 @@ ghost use Rattle.std.proofs.Common.{lit≤};
 ghost use Rattle.wat_core.specs.Groups.{group};
 ghost use Rattle.wat_core.specs.Index.{identifier, name_of};
 ghost use Rattle.wat_core.specs.Many.{many};
-ghost use Rattle.wat_core.specs.Tests.{begins_id};
+ghost use Rattle.wat_core.specs.Test.{at_id};
 ghost use Rattle.wat_core.specs.Views.{owning, no_items};
 
 use bumpalo::Bump;
@@ -22,7 +22,7 @@ impl<'a> Parse<'a> for Path<'a> {
 
     ghost view = { owning (λ p. map name_of p.0.items) no_items };
 
-    ghost grammar = { group (codes "path") (many begins_id identifier (lit≤ tt)) };
+    ghost grammar = { group (codes "path") (many at_id identifier (lit≤ tt)) };
 
     fn parse(parser: &mut Parser<'a>) -> Result<Self> {
         parser.open()?;

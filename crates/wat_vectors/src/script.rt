@@ -8,7 +8,7 @@ ghost use Rattle.wat_core.specs.Groups.{paren};
 ghost use Rattle.wat_core.specs.Many.{many};
 ghost use Rattle.wat_core.specs.Module.{ModuleTy, module_};
 ghost use Rattle.wat_core.specs.Parts.{made, where_else};
-ghost use Rattle.wat_core.specs.Tests.{begins_group, more};
+ghost use Rattle.wat_core.specs.Test.{at_group, at_more};
 ghost use Rattle.wat_core.specs.Views.{owning, no_items};
 
 use crate::invoke::Invoke;
@@ -40,7 +40,7 @@ impl<'a> Parse<'a> for Directive<'a> {
 
     ghost cost = { turns_too };
 
-    ghost grammar = { where_else (begins_group (codes "module")) (made inl (paren module_))
+    ghost grammar = { where_else (at_group (codes "module")) (made inl (paren module_))
         (made inr ⟦<Invoke<'a> as Parse<'a>>⟧.grammar) };
 
     fn parse(parser: &mut Parser<'a>) -> Result<Self> {
@@ -63,7 +63,7 @@ impl<'a> Parse<'a> for Script<'a> {
     ghost cost = { turns_too };
 
     // Behind the production of a part is the proof that it takes a token, of either kind.
-    ghost grammar = { many more ⟦<Directive<'a> as Parse<'a>>⟧.grammar
+    ghost grammar = { many at_more ⟦<Directive<'a> as Parse<'a>>⟧.grammar
         (le-min (le_trans (lit≤ tt) (le-add_left 2 module_.least)) (lit≤ tt)) };
 
     fn parse(parser: &mut Parser<'a>) -> Result<Self> {

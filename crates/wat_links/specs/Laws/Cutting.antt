@@ -9,8 +9,10 @@ use Rattle.wat_tokens.specs.Tests.{begins_group, more}
 use Rattle.wat_tokens.specs.Production.{Production}
 use Rattle.wat_tokens.specs.ManySpells.{many_spells}
 use Rattle.wat_tokens.specs.Laws.Production.{by_test}
+use Rattle.wat_tokens.specs.Test.{Test, run}
 use Rattle.wat_links.specs.Dylink.{SubsectionTy, export_info, import_info, begins_export}
-use Rattle.wat_links.specs.Dylink.{begins_import, lone_entry, mem_info_entry, run, subsection}
+use Rattle.wat_links.specs.Dylink.{begins_import, lone_entry, mem_info_entry, entry_run, subsection}
+use Rattle.wat_links.specs.Dylink.{at_export, at_import}
 use Rattle.wat_links.specs.Entries.{EntryTy, of_export, of_import, other, entry, entries_in}
 use Rattle.wat_links.specs.Entries.{IsFilled, IsApart, AreCut}
 use Rattle.wat_links.specs.DylinkEntries.{export_entry, import_entry}
@@ -47,28 +49,28 @@ regroup d e r = append_assoc d e r
 
 -- ---- a run, and the entries in it
 
-module _ {A : Type 0} (f : A → EntryTy) (begins : List Tok → Bool) (g : Production A)
+module _ {A : Type 0} (f : A → EntryTy) (test : Test) (g : Production A)
     (consumes : 1 ≤ g.least)
-    (as_entry : (x : A) (d t : List Tok) → begins (d ++ t) ≡ true → g.spells x d t
+    (as_entry : (x : A) (d t : List Tok) → run test (d ++ t) ≡ true → g.spells x d t
     → entry.spells (f x) d t)
     (of_entry : (x : A) (d t : List Tok) → entry.spells (f x) d t
-    → (begins (d ++ t) ≡ true) × g.spells x d t)
-    (goes_on : (t : List Tok) → begins t ≡ true → more t ≡ true) where
-  run_is_many : (vs : List A) (d t : List Tok) → begins (d ++ t) ≡ true
-      → (run begins g consumes).spells vs d t → many_spells begins g vs d t
+    → (run test (d ++ t) ≡ true) × g.spells x d t)
+    (goes_on : (t : List Tok) → run test t ≡ true → more t ≡ true) where
+  run_is_many : (vs : List A) (d t : List Tok) → run test (d ++ t) ≡ true
+      → (entry_run test g consumes).spells vs d t → many_spells (λ u. run test u) g vs d t
   run_is_many vs d t b s =
-      subst (λ (u : List A). many_spells begins g u d t) s.3 (s.1.0, s.1.1, s.1.2, b, s.1.3, s.1.4)
+      subst (λ (u : List A). many_spells (λ u. run test u) g u d t) s.3 (s.1.0, s.1.1, s.1.2, b, s.1.3, s.1.4)
 
-  many_is_run : (x : A) (xs : List A) (d t : List Tok) → many_spells begins g (x ∷ xs) d t
-      → (run begins g consumes).spells (x ∷ xs) d t
+  many_is_run : (x : A) (xs : List A) (d t : List Tok) → many_spells (λ u. run test u) g (x ∷ xs) d t
+      → (entry_run test g consumes).spells (x ∷ xs) d t
   many_is_run x xs d t s = ((x, xs), (s.0, s.1, s.2, s.4, s.5), refl, refl)
 
   run_entries : (xs : List A) (d e r : List Tok) (es : List EntryTy)
-      → many_spells begins g xs d (e ++ r) → many_spells more entry es e r
+      → many_spells (λ u. run test u) g xs d (e ++ r) → many_spells more entry es e r
       → many_spells more entry (map f xs ++ es) (d ++ e) r
   run_entries [] d e r es s p = rw (s.0) p
   run_entries (x ∷ xs) d e r es s p =
-      let b : begins (s.0 ++ ((s.1 ++ e) ++ r)) ≡ true =
+      let b : run test (s.0 ++ ((s.1 ++ e) ++ r)) ≡ true =
       rw (regroup s.1 e r, ← regroup s.0 s.1 (e ++ r), ← s.2) (s.3) in
       let m : more ((d ++ e) ++ r) ≡ true = rw (regroup d e r) (goes_on (d ++ (e ++ r)) s.3) in
       let w : g.spells x s.0 ((s.1 ++ e) ++ r) = rw (regroup s.1 e r) (s.4) in (
@@ -83,7 +85,7 @@ module _ {A : Type 0} (f : A → EntryTy) (begins : List Tok → Bool) (g : Prod
   entries_run : (xs : List A) (c r : List Tok) (es : List EntryTy)
       → many_spells more entry (map f xs ++ es) c r
       → (d : List Tok) × (e : List Tok) × (c ≡ d ++ e)
-      × (begins (e ++ r) ≡ false → many_spells begins g xs d (e ++ r))
+      × (run test (e ++ r) ≡ false → many_spells (λ u. run test u) g xs d (e ++ r))
       × many_spells more entry es e r
   entries_run [] c r es s = ([], c, refl, (λ k. (refl, k)), s)
   entries_run (x ∷ xs) c r es s =
@@ -93,25 +95,25 @@ module _ {A : Type 0} (f : A → EntryTy) (begins : List Tok → Bool) (g : Prod
       ap (λ (u : List Tok). u ++ r) p.2 ∙ regroup p.0 p.1 r in
       let whole : c ≡ (s.0 ++ p.0) ++ p.1 =
       s.2 ∙ ap (λ (u : List Tok). s.0 ++ u) p.2 ∙ sym (regroup s.0 p.0 p.1) in
-      let b = subst (λ (u : List Tok). begins u ≡ true)
+      let b = subst (λ (u : List Tok). run test u ≡ true)
       (ap (λ (u : List Tok). s.0 ++ u) e ∙ sym (regroup s.0 p.0 (p.1 ++ r))) q.0 in
       let w = subst (λ (u : List Tok). g.spells x s.0 u) e q.1 in
       (s.0 ++ p.0, p.1, whole, (λ k. (s.0, p.0, refl, b, w, p.3 k)), p.4)
 
   -- a run before other entries, with no entry of the same kind directly after it
   run_in_front : (vs : List A) (d e r : List Tok) (es : List EntryTy)
-      → begins (d ++ (e ++ r)) ≡ true → (run begins g consumes).spells vs d (e ++ r)
+      → run test (d ++ (e ++ r)) ≡ true → (entry_run test g consumes).spells vs d (e ++ r)
       → many_spells more entry es e r
-      → many_spells more entry (map f vs ++ es) (d ++ e) r × (begins (e ++ r) ≡ false)
+      → many_spells more entry (map f vs ++ es) (d ++ e) r × (run test (e ++ r) ≡ false)
   run_in_front vs d e r es b s p =
       let all = run_is_many vs d (e ++ r) b s in
-      (run_entries vs d e r es all p, many_ends begins g vs d (e ++ r) all)
+      (run_entries vs d e r es all p, many_ends (λ u. run test u) g vs d (e ++ r) all)
 
   -- all entries of one kind, before other entries, are a run
   front_is_run : (x : A) (xs : List A) (c d e r : List Tok) → c ≡ d ++ e
-      → many_spells begins g (x ∷ xs) d (e ++ r)
-      → (more (c ++ r) ≡ true) × (begins (d ++ (e ++ r)) ≡ true)
-      × (run begins g consumes).spells (x ∷ xs) d (e ++ r)
+      → many_spells (λ u. run test u) g (x ∷ xs) d (e ++ r)
+      → (more (c ++ r) ≡ true) × (run test (d ++ (e ++ r)) ≡ true)
+      × (entry_run test g consumes).spells (x ∷ xs) d (e ++ r)
   front_is_run x xs c d e r p s =
       let m : more (c ++ r) ≡ true = rw (p, regroup d e r) (goes_on (d ++ (e ++ r)) s.3) in
       (m, s.3, many_is_run x xs d (e ++ r) s)
@@ -267,14 +269,14 @@ first_cut : (s : SubsectionTy) (ss : List SubsectionTy) (d e r : List Tok)
     → IsFirst ss (d ++ e) r s
 unfolding subsection entry
 first_cut s ss d e r m (inl p) rest es =
-    let q = run_in_front of_export begins_export export_entry export_entry_consumes export_as
+    let q = run_in_front of_export at_export export_entry export_entry_consumes export_as
     export_is
     (group_more (codes "export-info")) p.1.0 d e r (all_entries ss) p.0 p.1.1 es in
     let filled = subst (λ (u : List (List ℕ × ℕ)). IsFilled (export_info u)) p.1.1.3 tt in
     subst (λ (u : SubsectionTy). IsFirst ss (d ++ e) r u) p.1.3
     (q.0, filled, apart_export p.1.0 ss e r q.1 rest)
 first_cut s ss d e r m (inr (b, inl p)) rest es =
-    let q = run_in_front of_import begins_import import_entry import_entry_consumes import_as
+    let q = run_in_front of_import at_import import_entry import_entry_consumes import_as
     import_is
     (group_more (codes "import-info")) p.1.0 d e r (all_entries ss) p.0 p.1.1 es in
     let filled = subst (λ (u : List (List ℕ × List ℕ × ℕ)). IsFilled (import_info u)) p.1.1.3 tt in
@@ -319,21 +321,21 @@ from_cut [] c r s a = s
 from_cut (export_info [] ∷ ss) c r s a = absurd a.0
 from_cut (import_info [] ∷ ss) c r s a = absurd a.0
 from_cut (export_info (x ∷ xs) ∷ ss) c r s a =
-    let p = entries_run of_export begins_export export_entry export_entry_consumes export_as
+    let p = entries_run of_export at_export export_entry export_entry_consumes export_as
     export_is
     (group_more (codes "export-info")) (x ∷ xs) c r (all_entries ss) s in
     let rest = from_cut ss p.1 r p.4 a.2 in
-    let q = front_is_run of_export begins_export export_entry export_entry_consumes export_as
+    let q = front_is_run of_export at_export export_entry export_entry_consumes export_as
     export_is
     (group_more (codes "export-info")) x xs c p.0 p.1 r p.2
     (p.3 (stops_export (x ∷ xs) ss p.1 r a.1 rest)) in
     (p.0, p.1, p.2, q.0, inl (q.1, (x ∷ xs, q.2, refl, refl)), rest)
 from_cut (import_info (x ∷ xs) ∷ ss) c r s a =
-    let p = entries_run of_import begins_import import_entry import_entry_consumes import_as
+    let p = entries_run of_import at_import import_entry import_entry_consumes import_as
     import_is
     (group_more (codes "import-info")) (x ∷ xs) c r (all_entries ss) s in
     let rest = from_cut ss p.1 r p.4 a.2 in
-    let q = front_is_run of_import begins_import import_entry import_entry_consumes import_as
+    let q = front_is_run of_import at_import import_entry import_entry_consumes import_as
     import_is
     (group_more (codes "import-info")) x xs c p.0 p.1 r p.2
     (p.3 (stops_import (x ∷ xs) ss p.1 r a.1 rest)) in

@@ -18,11 +18,11 @@ use Rattle.wat_links.specs.ItemForms.{ItemsSpells}
 ends_there : (t : List Tok) → item_follows t ≡ false → typed t ≡ true → ends t ≡ true
 ends_there [] f e = refl
 ends_there (RParen ∷ t) f e = refl
-ends_there (LParen ∷ Keyword k ∷ String s ∷ t) f e = absurd (let h = rw f at e in cc)
+ends_there (LParen ∷ Keyword k ∷ t) f e = absurd (let h = rw f at e in cc)
 ends_there (_ ∷ t) f e = absurd cc
 
 untyped : (t : List Tok) → begins_lparen t ≡ true → item_follows t ≡ false → typed t ≡ false
-untyped (LParen ∷ Keyword k ∷ String s ∷ t) b f = rw f refl
+untyped (LParen ∷ Keyword k ∷ t) b f = rw f refl
 untyped (LParen ∷ t) b f = refl
 untyped [] b f = absurd cc
 untyped (_ ∷ t) b f = absurd cc

@@ -1,5 +1,5 @@
 -- Laws: if the next tokens begin no inline import, no inline import is read.
-use Rattle.std.proofs.Common.{◌≡◌, ℕ, true, false, List, ◌∷◌, codes, Option, Some, None}
+use Rattle.std.proofs.Common.{◌≡◌, ℕ, true, false, List, ◌∷◌, codes, Option, Some, None, refl}
 use Rattle.std.specs.Str.{bytes_eq}
 use Rattle.wat_tokens.specs.Token.{Tok, LParen, RParen, Keyword, String}
 use Rattle.wat_tokens.specs.Tests.{word_only}
@@ -17,7 +17,7 @@ names_first : (a b c : Tok) (u : Unit {0}) (m n : List ℕ) (r : List Tok)
     → word_only (codes "import") a ≡ Some u → text_in b ≡ Some m → text_in c ≡ Some n
     → begins_inline_import (LParen ∷ a ∷ b ∷ c ∷ RParen ∷ r) ≡ true
 names_first (Keyword k) (String s) (String s2) u m n r e f g =
-    by_test (bytes_eq k (codes "import")) (λ b. b)
+    by_test (bytes_eq k (codes "import")) (λ b. rw b refl)
     (λ b. absurd (let h : no_unit ≡ a_unit u = rw b at e in cc))
 names_first (Keyword k) (String s) _ u m n r e f g = absurd cc
 names_first (Keyword k) _ c u m n r e f g = absurd cc

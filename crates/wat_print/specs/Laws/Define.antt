@@ -3,11 +3,10 @@ use Rattle.std.specs.Prelude.{◌≡◌, ℕ, true, List, codes, ◌⊎◌}
 use Rattle.std.specs.Str.{bytes_eq}
 use Rattle.std.proofs.Common.{rules, arith, refl, lit≤}
 use Rattle.std.proofs.lemmas.Bool.{and_parts}
-use Rattle.wat_tokens.specs.Index.{begins_index}
-use Rattle.wat_tokens.specs.Tests.{begins_word, second}
+use Rattle.wat_tokens.specs.Index.{at_index}
+use Rattle.wat_tokens.specs.Test.{at_word, second_word}
 use Rattle.wat_types.specs.Define.{func, struct_, array, cont, kind, DefTy, linked, plain_def}
 use Rattle.wat_types.specs.Define.{described, shared_def, maybe_shared, sub_def, type_def, type_}
-use Rattle.wat_types.specs.Define.{begins_type}
 use Rattle.wat_types.specs.Laws.Define.{grouped_type_consumes}
 use Rattle.wat_types.specs.Recursion.{types, rec}
 use Rattle.wat_print.specs.Define.{kind_parts, kind_form, link_form, Core, core_form, shared_form}
@@ -30,11 +29,11 @@ use Rattle.wat_print.specs.Laws.Struct.{struct_prints}
 pub kind_prints : Prints kind_form kind
 unfolding kind
 kind_prints =
-    whole_prints (else_prints (begins_word (codes "func"))
+    whole_prints (else_prints (at_word (codes "func"))
     (made_prints (after_prints function_prints (codes "func") refl refl) func)
-    (else_prints (begins_word (codes "struct"))
+    (else_prints (at_word (codes "struct"))
     (made_prints (after_prints struct_prints (codes "struct") refl refl) struct_)
-    (else_prints (begins_word (codes "array"))
+    (else_prints (at_word (codes "array"))
     (made_prints (after_prints field_prints (codes "array") refl refl) array)
     (made_prints (after_prints index_prints (codes "cont") refl refl) cont)
     (search rules) (search rules)) (search rules) (search rules)) (search rules) (search rules))
@@ -46,7 +45,7 @@ link_prints : (w : List ℕ) → is_keyword w ≡ true → bytes_eq w w ≡ true
     → Prints (link_form w) (linked w)
 unfolding linked
 link_prints w k e =
-    option_prints (begins_word w) (after_prints (whole_prints (made_prints (seq_prints index_prints
+    option_prints (at_word w) (after_prints (whole_prints (made_prints (seq_prints index_prints
     turn_prints (λ y. refl)) (λ v. v.0)) before_unit (λ i h. refl) (λ i h. h) (λ v h. h)) w k e)
     (λ y i. e)
 
@@ -63,7 +62,7 @@ def_of v = pick (λ c. shared_def (plain_def c)) plain_def v
 shared_prints : Unparses shared_form def_of maybe_shared
 unfolding maybe_shared
 shared_prints =
-    else_prints (begins_word (codes "shared"))
+    else_prints (at_word (codes "shared"))
     (made_prints (after_prints (paren_prints core_prints) (codes "shared") refl refl) shared_def)
     core_prints (search rules) (search rules)
 
@@ -73,9 +72,9 @@ sub_of v = pick (λ s. sub_def (s.0, (s.1.0, def_of s.1.1))) def_of v
 sub_prints : Unparses sub_form sub_of type_def
 unfolding type_def
 sub_prints =
-    else_prints (begins_word (codes "sub"))
+    else_prints (at_word (codes "sub"))
     (made_prints (after_prints (seq_prints (flag_prints (codes "final") refl refl)
-    (seq_prints (many_prints begins_index index_prints (lit≤ tt) (search rules) (search rules))
+    (seq_prints (many_prints at_index index_prints (lit≤ tt) (search rules) (search rules))
     (paren_prints shared_prints) (search rules)) (search rules)) (codes "sub") refl refl) sub_def)
     shared_prints (search rules) (search rules)
 
@@ -96,5 +95,5 @@ type_prints =
 pub rec_prints : Prints rec_form rec
 unfolding rec types
 rec_prints =
-    after_prints (many_prints (second begins_type) (paren_prints type_prints) grouped_type_consumes
+    after_prints (many_prints (second_word (codes "type")) (paren_prints type_prints) grouped_type_consumes
     (search rules) (search rules)) (codes "rec") refl refl

@@ -14,12 +14,14 @@ use Rattle.wat_tokens.specs.Parts.{after_word}
 use Rattle.wat_tokens.specs.Production.{Production}
 use Rattle.wat_tokens.specs.Restated.{restated}
 use Rattle.wat_tokens.specs.Spelled.{in_parens}
+use Rattle.wat_tokens.specs.Test as asked
+use Rattle.wat_tokens.specs.Test.{run}
 use Rattle.wat_tokens.specs.Tests.{begins_word}
 use Rattle.wat_print.specs.Form.{Test, any, Form, told_form, token_form, OfWord, word_form}
 use Rattle.wat_print.specs.Form.{flag_form, seq_follows, SeqFronts, seq_form, by, by_where, pick}
 use Rattle.wat_print.specs.Form.{else_follows, else_form, option_form, many_form, ParenFronts}
 use Rattle.wat_print.specs.Form.{paren_form, turn_form, after_form, group_form, only_where_form}
-use Rattle.wat_print.specs.Form.{behind_form, unwritten_form, filled_form, some_and}
+use Rattle.wat_print.specs.Form.{behind_form, unwritten_form, filled_form, some_and, led_form}
 use Rattle.wat_print.specs.Parts.{spell_option, if_some, each, spell_flag}
 use Rattle.wat_print.specs.Prints.{Passes, Closes, Nests, Unparses, Prints, Must, UnparsesAs}
 use Rattle.wat_print.specs.Prints.{Inside}
@@ -27,7 +29,7 @@ use Rattle.wat_print.specs.WellFormed.{WellFormed, nothing, is_given, is_keyword
 use Rattle.wat_print.specs.WellFormed as well_formed
 use Rattle.wat_print.specs.Laws.Only.{given_parts, OnlyPrintable}
 use Rattle.wat_print.specs.Laws.Parts.{flag_here, word_here, well_formed_one, well_formed_flag}
-use Rattle.wat_print.specs.Laws.Parts.{well_formed_both, well_formed_paren}
+use Rattle.wat_print.specs.Laws.Parts.{well_formed_both, well_formed_paren, Spells}
 
 -- ---- how tokens nest
 
@@ -87,7 +89,7 @@ closes_turn x c = (
 
 -- ---- tests of the first tokens
 
-passes_of : (e : Bool) (test : Test) (r : List Tok) → test r ≡ true → Passes e test r
+pub passes_of : (e : Bool) (test : Test) (r : List Tok) → test r ≡ true → Passes e test r
 passes_of true test r h = h
 passes_of false test r h = tt
 
@@ -353,7 +355,7 @@ passes_right true b test r e = passes_of b test r e
 passes_right false b test r e = e
 
 module _ {N : Bool → List Tok → Type 0} {A B C : Type 0} {form : Form A} {other : Form B}
-    {view : A → C} {also : B → C} {g h : Production C} (rest test : Test)
+    {view : A → C} {also : B → C} {g h : Production C} (rest : Test) (test : asked.Test)
     (p : UnparsesAs N form view g) (q : UnparsesAs N other also h)
     (left : (x : List Tok) → N form.balanced x → N (form.balanced && other.balanced) x)
     (right : (x : List Tok) → N other.balanced x → N (form.balanced && other.balanced) x)
@@ -372,22 +374,22 @@ module _ {N : Bool → List Tok → Type 0} {A B C : Type 0} {form : Form A} {ot
         q.front x t f.1 b r k i (passes_right form.empty other.empty t r e)
 
     else_here : ((a : A) (r : List Tok) → form.ready a ≡ true → rest r ≡ true
-        → test (form.spell a ++ r) ≡ true)
-        → other.Fronts rest (λ t. not (test t))
+        → run test (form.spell a ++ r) ≡ true)
+        → other.Fronts rest (λ t. not (run test t))
         → (v : A ⊎ B) (r : List Tok) → pick form.ready other.ready v ≡ true
-        → rest r && (form.follows r && else_follows other.empty test other.follows r) ≡ true
+        → rest r && (form.follows r && else_follows other.empty (λ t. run test t) other.follows r) ≡ true
         → (where_else test g h).spells (pick view also v) (pick form.spell other.spell v) r
     else_here m f (inl a) r k e =
         let i = and_parts (rest r) _ e in
-        let x = and_parts (form.follows r) (else_follows other.empty test other.follows r) i.1 in
+        let x = and_parts (form.follows r) (else_follows other.empty (λ t. run test t) other.follows r) i.1 in
         inl (m a r k i.0, p.here a r k x.0)
     else_here m f (inr b) r k e =
         let i = and_parts (rest r) _ e in
-        let x = and_parts (form.follows r) (else_follows other.empty test other.follows r) i.1 in
-        let y = else_parts other.empty test other.follows r x.1 in
+        let x = and_parts (form.follows r) (else_follows other.empty (λ t. run test t) other.follows r) i.1 in
+        let y = else_parts other.empty (λ t. run test t) other.follows r x.1 in
         inr (
-          not_true (test (other.spell b ++ r))
-              (q.front rest (λ t. not (test t)) f b r k i.0 y.0),
+          not_true (run test (other.spell b ++ r))
+              (q.front rest (λ t. not (run test t)) f b r k i.0 y.0),
           q.here b r k y.1,
         )
 
@@ -400,9 +402,9 @@ module _ {N : Bool → List Tok → Type 0} {A B C : Type 0} {form : Form A} {ot
     -- the test passes on the tokens of the first part, and fails on the tokens of the second part,
     -- before each rest that passes `rest`
     told : ((a : A) (r : List Tok) → form.ready a ≡ true → rest r ≡ true
-        → test (form.spell a ++ r) ≡ true)
-        → other.Fronts rest (λ t. not (test t))
-        → UnparsesAs N (told_form rest test form other) (pick view also) (where_else test g h)
+        → run test (form.spell a ++ r) ≡ true)
+        → other.Fronts rest (λ t. not (run test t))
+        → UnparsesAs N (told_form rest (λ t. run test t) form other) (pick view also) (where_else test g h)
     told m f = record {
       nests = else_nests;
       front = else_front;
@@ -413,24 +415,24 @@ module _ {N : Bool → List Tok → Type 0} {A B C : Type 0} {form : Form A} {ot
 module _ {A B C : Type 0} {form : Form A} {other : Form B} {view : A → C} {also : B → C}
     {g h : Production C}
   where
-    pub told_prints : (rest test : Test) → Unparses form view g → Unparses other also h
+    pub told_prints : (rest : Test) (test : asked.Test) → Unparses form view g → Unparses other also h
         → ((a : A) (r : List Tok) → form.ready a ≡ true → rest r ≡ true
-        → test (form.spell a ++ r) ≡ true)
-        → other.Fronts rest (λ t. not (test t))
-        → Unparses (told_form rest test form other) (pick view also) (where_else test g h)
+        → run test (form.spell a ++ r) ≡ true)
+        → other.Fronts rest (λ t. not (run test t))
+        → Unparses (told_form rest (λ t. run test t) form other) (pick view also) (where_else test g h)
     told_prints rest test p q m f = told rest test p q (nests_left form.balanced other.balanced)
         (nests_right form.balanced other.balanced) m f
 
-    pub else_prints : (test : Test) → Unparses form view g → Unparses other also h
-        → Must form.empty (form.Fronts any test) → other.Fronts any (λ t. not (test t))
-        → Unparses (else_form test form other) (pick view also) (where_else test g h)
-    else_prints test p q m f = told_prints any test p q (λ a r k e. begun p test m a r k) f
+    pub else_prints : (test : asked.Test) → Unparses form view g → Unparses other also h
+        → Must form.empty (form.Fronts any (λ t. run test t)) → other.Fronts any (λ t. not (run test t))
+        → Unparses (else_form (λ t. run test t) form other) (pick view also) (where_else test g h)
+    else_prints test p q m f = told_prints any test p q (λ a r k e. begun p (λ t. run test t) m a r k) f
 
-    pub else_inside : (test : Test) → Inside form view g → Inside other also h
-        → Must form.empty (form.Fronts any test) → other.Fronts any (λ t. not (test t))
-        → Inside (else_form test form other) (pick view also) (where_else test g h)
+    pub else_inside : (test : asked.Test) → Inside form view g → Inside other also h
+        → Must form.empty (form.Fronts any (λ t. run test t)) → other.Fronts any (λ t. not (run test t))
+        → Inside (else_form (λ t. run test t) form other) (pick view also) (where_else test g h)
     else_inside test p q m f = told any test p q (λ x n. n) (λ x n. n)
-        (λ a r k e. begun p test m a r k) f
+        (λ a r k e. begun p (λ t. run test t) m a r k) f
 
 -- ---- parts that may be absent, and lists of parts
 
@@ -444,7 +446,7 @@ seen_as {form = form} {g = g} same p = record {
   only = λ b c r a s. (let x = p.only b c r a s in (x.0, sym (same x.0) ∙ x.1, x.2));
 }
 
-module _ {A B : Type 0} {form : Form A} {view : A → B} {g : Production B} (begins : Test)
+module _ {A B : Type 0} {form : Form A} {view : A → B} {g : Production B} (begins : asked.Test)
     (p : Unparses form view g)
   where
     option_nests : (o : Option A) → if_some form.ready o ≡ true
@@ -459,13 +461,13 @@ module _ {A B : Type 0} {form : Form A} {view : A → B} {g : Production B} (beg
         p.front rest test f v r h i (passes_of form.empty test r e)
     option_front rest test f None r h i e = e
 
-    option_here : Must form.empty (form.Fronts any begins) → (o : Option A) (r : List Tok)
-        → if_some form.ready o ≡ true → not (begins r) && form.follows r ≡ true
+    option_here : Must form.empty (form.Fronts any (λ t. run begins t)) → (o : Option A) (r : List Tok)
+        → if_some form.ready o ≡ true → not (run begins r) && form.follows r ≡ true
         → (opt begins g).spells (option_map view o) (spell_option form.spell o) r
     option_here m (Some v) r h e =
-        (begun p begins m v r h, p.here v r h (and_parts (not (begins r)) (form.follows r) e).1)
+        (begun p (λ t. run begins t) m v r h, p.here v r h (and_parts (not (run begins r)) (form.follows r) e).1)
     option_here m None r h e =
-        (refl, not_true (begins r) (and_parts (not (begins r)) (form.follows r) e).0)
+        (refl, not_true (run begins r) (and_parts (not (run begins r)) (form.follows r) e).0)
 
     option_only : (o : Option B) (c r : List Tok) → each is_given c ≡ true
         → (opt begins g).spells o c r
@@ -474,8 +476,8 @@ module _ {A B : Type 0} {form : Form A} {view : A → B} {g : Production B} (beg
         let x = p.only w c r a s.1 in (Some x.0, ap (λ (v : B). Some v) x.1, x.2)
     option_only None c r a s = (None, refl, refl)
 
-    pub option_seen : Must form.empty (form.Fronts any begins)
-        → Unparses (option_form begins form) (option_map view) (opt begins g)
+    pub option_seen : Must form.empty (form.Fronts any (λ t. run begins t))
+        → Unparses (option_form (λ t. run begins t) form) (option_map view) (opt begins g)
     option_seen m = record {
       nests = option_nests;
       front = option_front;
@@ -487,10 +489,10 @@ option_same : {A : Type 0} (o : Option A) → option_map (λ v. v) o ≡ o
 option_same (Some v) = refl
 option_same None = refl
 
-module _ {A : Type 0} {form : Form A} {g : Production A} (begins : Test) (p : Prints form g)
-    (m : Must form.empty (form.Fronts any begins))
+module _ {A : Type 0} {form : Form A} {g : Production A} (begins : asked.Test) (p : Prints form g)
+    (m : Must form.empty (form.Fronts any (λ t. run begins t)))
   where
-    pub option_prints : Prints (option_form begins form) (opt begins g)
+    pub option_prints : Prints (option_form (λ t. run begins t) form) (opt begins g)
     option_prints = seen_as option_same (option_seen begins p m)
 
     filled_nests : (o : Option A) → some_and form.ready o ≡ true
@@ -506,10 +508,10 @@ module _ {A : Type 0} {form : Form A} {g : Production A} (begins : Test) (p : Pr
 
     filled_here : (o : Option A) (r : List Tok) → some_and form.ready o ≡ true
         → form.follows r ≡ true → (opt begins g).spells o (spell_option form.spell o) r
-    filled_here (Some v) r h e = (begun p begins m v r h, p.here v r h e)
+    filled_here (Some v) r h e = (begun p (λ t. run begins t) m v r h, p.here v r h e)
     filled_here None r h e = absurd cc
 
-    pub filled_prints : Prints (filled_form begins form) (opt begins g)
+    pub filled_prints : Prints (filled_form (λ t. run begins t) form) (opt begins g)
     filled_prints = record {
       nests = filled_nests;
       front = filled_front;
@@ -517,7 +519,7 @@ module _ {A : Type 0} {form : Form A} {g : Production A} (begins : Test) (p : Pr
       only = option_prints.only;
     }
 
-module _ {A B : Type 0} {form : Form A} {view : A → B} {g : Production B} (begins : Test)
+module _ {A B : Type 0} {form : Form A} {view : A → B} {g : Production B} (begins : asked.Test)
     (p : Unparses form view g)
   where
     many_nests : (vs : List A) → each form.ready vs ≡ true
@@ -550,10 +552,10 @@ module _ {A B : Type 0} {form : Form A} {view : A → B} {g : Production B} (beg
         subst (λ (l : List Tok). form.follows l ≡ true) (sym (append_assoc (form.spell v) x r))
         (begun p form.follows n v (x ++ r) a.0)
 
-    many_here : Must form.empty (form.Fronts any begins)
+    many_here : Must form.empty (form.Fronts any (λ t. run begins t))
         → Must form.empty (form.Fronts any form.follows) → (vs : List A) (r : List Tok)
-        → each form.ready vs ≡ true → form.follows r ≡ true → begins r ≡ false
-        → many_spells begins g (map view vs) (flat_map form.spell vs) r
+        → each form.ready vs ≡ true → form.follows r ≡ true → run begins r ≡ false
+        → many_spells (λ t. run begins t) g (map view vs) (flat_map form.spell vs) r
     many_here m n [] r h e k = (refl, k)
     many_here m n (v ∷ vs) r h e k =
         let a = and_parts (form.ready v) (each form.ready vs) h in
@@ -561,14 +563,14 @@ module _ {A B : Type 0} {form : Form A} {view : A → B} {g : Production B} (beg
           form.spell v,
           x,
           refl,
-          subst (λ (l : List Tok). begins l ≡ true) (sym (append_assoc (form.spell v) x r))
-              (begun p begins m v (x ++ r) a.0),
+          subst (λ (l : List Tok). run begins l ≡ true) (sym (append_assoc (form.spell v) x r))
+              (begun p (λ t. run begins t) m v (x ++ r) a.0),
           p.here v (x ++ r) a.0 (many_end n vs r a.1 e),
           many_here m n vs r a.1 e k,
         )
 
     many_only : (ws : List B) (c r : List Tok) → each is_given c ≡ true
-        → many_spells begins g ws c r
+        → many_spells (λ t. run begins t) g ws c r
         → (vs : List A) × (map view vs ≡ ws) × (each form.printable vs ≡ true)
     many_only [] c r a s = ([], refl, refl)
     many_only (w ∷ ws) c r a s =
@@ -578,14 +580,14 @@ module _ {A B : Type 0} {form : Form A} {view : A → B} {g : Production B} (beg
         (x.0 ∷ y.0, rw (x.1, y.1) refl, rw (x.2) (y.2))
 
     -- the test distinguishes a part from the tokens that may follow: more parts, or the rest
-    pub many_seen : (consumes : 1 ≤ g.least) → Must form.empty (form.Fronts any begins)
+    pub many_seen : (consumes : 1 ≤ g.least) → Must form.empty (form.Fronts any (λ t. run begins t))
         → Must form.empty (form.Fronts any form.follows)
-        → Unparses (many_form begins form) (map view) (many begins g consumes)
+        → Unparses (many_form (λ t. run begins t) form) (map view) (many begins g consumes)
     many_seen consumes m n = record {
       nests = many_nests;
       front = λ rest test f vs r h i e. many_front test f vs r h e;
-      here = λ vs r h e. (let k = and_parts (not (begins r)) (form.follows r) e in
-          many_here m n vs r h k.1 (not_true (begins r) k.0));
+      here = λ vs r h e. (let k = and_parts (not (run begins r)) (form.follows r) e in
+          many_here m n vs r h k.1 (not_true (run begins r) k.0));
       only = many_only;
     }
 
@@ -600,11 +602,11 @@ map_same : {A : Type 0} (vs : List A) → map (λ v. v) vs ≡ vs
 map_same [] = refl
 map_same (v ∷ vs) = ap (λ l. v ∷ l) (map_same vs)
 
-module _ {A : Type 0} {form : Form A} {g : Production A} (begins : Test) (p : Prints form g)
+module _ {A : Type 0} {form : Form A} {g : Production A} (begins : asked.Test) (p : Prints form g)
   where
-    pub many_prints : (consumes : 1 ≤ g.least) → Must form.empty (form.Fronts any begins)
+    pub many_prints : (consumes : 1 ≤ g.least) → Must form.empty (form.Fronts any (λ t. run begins t))
         → Must form.empty (form.Fronts any form.follows)
-        → Prints (many_form begins form) (many begins g consumes)
+        → Prints (many_form (λ t. run begins t) form) (many begins g consumes)
     many_prints consumes m n = seen_as map_same (many_seen begins p consumes m n)
 
 -- ---- groups
@@ -647,15 +649,36 @@ module _ {A B : Type 0} {form : Form A} {view : A → B} {g : Production B}
     pub grouped_prints : Inside form view g → Unparses (paren_form form) view (paren g)
     grouped_prints p = shut_prints p (λ x n. n)
 
-    -- a part that reads one token without a value, and then the form
-    pub led_only : (k : Production (Unit {0})) → Unparses form view g → (b : B) (c r : List Tok)
-        → each is_given c ≡ true → (made (λ v. v.1) (seq k g)).spells b c r
+module _ {N : Bool → List Tok → Type 0} {A B : Type 0} {form : Form A} {view : A → B}
+    {g : Production B} (p : UnparsesAs N form view g)
+  where
+    led_only : (k : Production (Unit {0})) (b : B) (c r : List Tok) → each is_given c ≡ true
+        → (made (λ v. v.1) (seq k g)).spells b c r
         → (a : A) × (view a ≡ b) × (form.printable a ≡ true)
-    led_only k p b c r a s =
+    led_only k b c r a s =
         let t = s.1 in
         let i = given_parts c t.0 t.1 t.2 a in
         let x = p.only s.0.1 t.1 r i.1 t.4 in
         (x.0, x.1 ∙ s.3, x.2)
+
+    -- a token, which k reads, and then the form
+    pub led_prints : {M : Bool → List Tok → Type 0} (Fronts : Test → Type 0) (t : Tok)
+        (k : Production (Unit {0}))
+        → Spells k tt (t ∷ [])
+        → ((test : Test) (y : List Tok) → Fronts test → test (t ∷ y) ≡ true)
+        → ((a : A) → form.ready a ≡ true → M form.balanced (t ∷ form.spell a))
+        → UnparsesAs M (led_form Fronts t form) view (made (λ v. v.1) (seq k g))
+    led_prints Fronts t k reads first nests = record {
+      nests = nests;
+      front = λ rest test f a r h i e. first test (form.spell a ++ r) f;
+      here = λ a r h i. (
+        (tt, view a),
+        (t ∷ [], form.spell a, refl, reads (form.spell a ++ r), p.here a r h i),
+        refl,
+        refl,
+      );
+      only = led_only k;
+    }
 
 module _ {A B : Type 0} {form : Form A} {view : A → B} {g : Production B}
     (p : Unparses form view g)
@@ -663,24 +686,10 @@ module _ {A B : Type 0} {form : Form A} {view : A → B} {g : Production B}
     -- word, then the form
     pub after_prints : (w : List ℕ) → is_keyword w ≡ true → bytes_eq w w ≡ true
         → Unparses (after_form w form) view (after_word w g)
-    after_prints w k e = record {
-      nests = λ a h. nests_seq true form.balanced (Keyword w ∷ []) (form.spell a)
-          (well_formed_one (Keyword w) k) (p.nests a h);
-      front = λ rest test f a r h i e. f (form.spell a ++ r) refl;
-      here = λ a r h i. (
-        (tt, view a),
-        (
-          Keyword w ∷ [],
-          form.spell a,
-          refl,
-          word_here w e (form.spell a ++ r),
-          p.here a r h i,
-        ),
-        refl,
-        refl,
-      );
-      only = led_only (word w) p;
-    }
+    after_prints w k e =
+        led_prints p (OfWord w any) (Keyword w) (word w) (word_here w e) (λ test y f. f y refl)
+        (λ a h. nests_seq true form.balanced (Keyword w ∷ []) (form.spell a)
+        (well_formed_one (Keyword w) k) (p.nests a h))
 
 module _ {A B : Type 0} {form : Form A} {view : A → B} {g : Production B}
     (p : Unparses form view g)

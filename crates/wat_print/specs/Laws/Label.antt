@@ -7,11 +7,13 @@ use Rattle.wat_lexer.specs.Token.{Tok, LParen, Id}
 use Rattle.wat_tokens.specs.Index.{identifier}
 use Rattle.wat_tokens.specs.Joined.{all_of}
 use Rattle.wat_tokens.specs.Many.{many}
-use Rattle.wat_tokens.specs.NameAnnotation.{name_annotation, begins_name}
+use Rattle.wat_tokens.specs.NameAnnotation.{name_annotation, at_name}
 use Rattle.wat_tokens.specs.Parts.{made, seq, where_else}
 use Rattle.wat_tokens.specs.Production.{Production}
-use Rattle.wat_tokens.specs.Tests.{as_id, begins_id, more}
+use Rattle.wat_tokens.specs.Tests.{as_id, more}
+use Rattle.wat_tokens.specs.Test.{at_id, at_more}
 use Rattle.wat_types.specs.Label.{Label, label_of, no_label, labelled, label, begins_label}
+use Rattle.wat_types.specs.Label.{at_label}
 use Rattle.wat_print.specs.Form.{Form, any, pick}
 use Rattle.wat_print.specs.Label.{none_labelled, by_itself, in_groups, OfIds, id_form, name_form}
 use Rattle.wat_print.specs.Label.{label_parts, label_form, tree_form, one_side, listed_parts}
@@ -62,8 +64,8 @@ name_prints = grouped_prints (annotated text_prints refl (codes "name") refl ref
 pub label_prints : Prints label_form label
 unfolding label
 label_prints =
-    whole_prints (made_prints (seq_prints (option_prints begins_id id_prints (search rules))
-    (option_prints begins_name name_prints (λ y. refl)) (λ y. refl)) (λ v. label_of v.0 v.1))
+    whole_prints (made_prints (seq_prints (option_prints at_id id_prints (search rules))
+    (option_prints at_name name_prints (λ y. refl)) (λ y. refl)) (λ v. label_of v.0 v.1))
     label_parts (λ l h. refl) (λ l h. h) (λ v h. h)
 
 or_right : (a b : Bool) → b ≡ true → a || b ≡ true
@@ -84,8 +86,8 @@ module _ {T P : Type 0} {value : Form T} {g : Production T} (p : Prints value g)
   where
     abbrev parts : Production (List P)
     parts =
-        where_else begins_label (made (λ v. part v.0 v.1 ∷ []) (seq label g))
-        (many more (made (part no_label) g) consumes)
+        where_else at_label (made (λ v. part v.0 v.1 ∷ []) (seq label g))
+        (many at_more (made (part no_label) g) consumes)
 
     abbrev seen : Label × T ⊎ List T → List P
     seen v = pick (λ (v : Label × T). part v.0 v.1 ∷ []) (map (part no_label)) v
@@ -101,9 +103,9 @@ module _ {T P : Type 0} {value : Form T} {g : Production T} (p : Prints value g)
 
     tree_prints : Unparses (tree_form value label_in value_in) seen parts
     tree_prints =
-        told_prints any begins_label (only_where_prints (made_prints (seq_prints label_prints p
+        told_prints any at_label (only_where_prints (made_prints (seq_prints label_prints p
         label_front) (λ v. part v.0 v.1 ∷ [])) (λ v. labelled v.0))
-        (many_seen more (made_prints p (part no_label)) consumes more_front next_front) label_told
+        (many_seen at_more (made_prints p (part no_label)) consumes more_front next_front) label_told
         told_front
 
     abbrev printable_part : P → Bool

@@ -7,7 +7,8 @@ use Rattle.std.proofs.lemmas.Bool.{lt-ltb, ltb-true}
 use Rattle.std.proofs.lemmas.Bool.Decides.{nat_tests}
 use Rattle.wat_lexer.specs.Token.{Tok, LParen, Integer}
 use Rattle.wat_tokens.specs.Integers.{unsigned, unsigned_of}
-use Rattle.wat_tokens.specs.Tests.{begins_word, begins_group, begins_integer}
+use Rattle.wat_tokens.specs.Tests.{begins_integer}
+use Rattle.wat_tokens.specs.Test.{at_group, at_integer, at_word}
 use Rattle.wat_types.specs.Limits.{is_64, limits_of, limits_type, page_exponent, pagesize}
 use Rattle.wat_types.specs.Limits.{pagesize_or_none, table_type_of, table_type, memory_type_of}
 use Rattle.wat_types.specs.Limits.{memory_type}
@@ -48,7 +49,7 @@ number_prints =
 pub width_prints : Prints width_form is_64
 unfolding is_64
 width_prints =
-    respelled (whole_where (else_prints (begins_word (codes "i64"))
+    respelled (whole_where (else_prints (at_word (codes "i64"))
     (made_prints (word_prints (codes "i64") refl refl) (λ _. true))
     (made_prints (flag_prints (codes "i32") refl refl) (λ _. false)) (search rules) (search rules))
     width_parts (λ _. true) (λ b h. grind arith) (λ b h. grind arith) (λ v h. refl))
@@ -58,7 +59,7 @@ pub limits_prints : Prints limits_form limits_type
 unfolding limits_type
 limits_prints =
     whole_prints (made_prints (behind_prints begins_integer width_prints (seq_prints number_prints
-    (option_prints begins_integer number_prints (search rules)) (search rules)) (search rules)
+    (option_prints at_integer number_prints (search rules)) (search rules)) (search rules)
     (search rules)) limits_of) limits_parts (λ l h. refl) (λ l h. h) (λ v h. h)
 
 -- ---- page sizes
@@ -111,7 +112,7 @@ exponent_prints = record {
 pub page_prints : Prints page_form pagesize_or_none
 unfolding pagesize_or_none pagesize
 page_prints =
-    option_prints (begins_group (codes "pagesize"))
+    option_prints (at_group (codes "pagesize"))
     (group_prints exponent_prints (codes "pagesize") refl refl) (search rules)
 
 -- ---- memory types and table types

@@ -5,13 +5,13 @@ use Rattle.std.proofs.Common.{refl, subst, inl, inr, sym}
 use Rattle.std.proofs.lemmas.Bool.{and_parts, cond_both}
 use Rattle.std.proofs.lemmas.Slice.Eq.{bytes_eq-Decides}
 use Rattle.wat_lexer.specs.Token.{Tok, LParen, RParen, Keyword}
-use Rattle.wat_tokens.specs.Groups.{paren}
 use Rattle.wat_tokens.specs.Many.{many}
 use Rattle.wat_tokens.specs.ManySpells.{many_spells}
 use Rattle.wat_tokens.specs.Parens.{NoParens}
 use Rattle.wat_tokens.specs.Parts.{one, seq, where_else, made_where, word, after_word}
 use Rattle.wat_tokens.specs.Production.{Production}
 use Rattle.wat_tokens.specs.Tests.{look_up, word_in}
+use Rattle.wat_tokens.specs.Test.{Test, run}
 use Rattle.wat_print.specs.WellFormed.{is_given}
 use Rattle.wat_print.specs.Parts.{each}
 use Rattle.wat_print.specs.Laws.Parts.{each_front}
@@ -35,33 +35,28 @@ given_group f y x g =
     let b = each_front is_given y (RParen ∷ x) a.1 in
     (a.0, b.0, b.1)
 
--- the value of a word in a table
-look_up_printable : {A : Type 0} (printable : A → Bool) (table : List (List ℕ × A)) (w : List ℕ)
-    (v : A) → each (λ e. printable e.1) table ≡ true → look_up table w ≡ Some v
-    → printable v ≡ true
-look_up_printable printable [] w v a e = absurd cc
-look_up_printable {A = A} printable (x ∷ table) w v a e =
-    let p = and_parts (printable x.1) (each (λ e. printable e.1) table) a in
+-- an entry of a table passes each test that all entries of the table pass
+entry_passes : {A : Type 0} (test : List ℕ → A → Bool) (table : List (List ℕ × A)) (w : List ℕ)
+    (v : A) → each (λ e. test e.0 e.1) table ≡ true → look_up table w ≡ Some v → test w v ≡ true
+entry_passes test [] w v a e = absurd cc
+entry_passes {A = A} test (x ∷ table) w v a e =
+    let p = and_parts (test x.0 x.1) (each (λ e. test e.0 e.1) table) a in
     cond_both (bytes_eq w x.0) (Some x.1) (look_up table w)
-    (λ (o : Option A). o ≡ Some v → printable v ≡ true)
-    (λ k f. (let same : x.1 ≡ v = cc in subst (λ (u : A). printable u ≡ true) same (p.0)))
-    (λ k f. (look_up_printable printable table w v p.1 f)) e
+    (λ (o : Option A). o ≡ Some v → test w v ≡ true)
+    (λ k f. (let same : x.1 ≡ v = cc in
+    subst (λ (u : List ℕ). test u v ≡ true) (sym ((bytes_eq-Decides w x.0).0 k))
+    (subst (λ (u : A). test x.0 u ≡ true) same p.0)))
+    (λ k f. (entry_passes test table w v p.1 f)) e
 
 -- a word of a table passes each test that all words of the table pass
 pub table_word : {A : Type 0} (test : List ℕ → Bool) (table : List (List ℕ × A)) (w : List ℕ)
     (v : A) → each (λ e. test e.0) table ≡ true → look_up table w ≡ Some v → test w ≡ true
-table_word test [] w v a e = absurd cc
-table_word {A = A} test (x ∷ table) w v a e =
-    let p = and_parts (test x.0) (each (λ e. test e.0) table) a in
-    cond_both (bytes_eq w x.0) (Some x.1) (look_up table w)
-    (λ (o : Option A). o ≡ Some v → test w ≡ true)
-    (λ k f. (subst (λ (u : List ℕ). test u ≡ true) (sym ((bytes_eq-Decides w x.0).0 k)) p.0))
-    (λ k f. (table_word test table w v p.1 f)) e
+table_word test = entry_passes (λ u x. test u)
 
 pub word_given : {A : Type 0} (printable : A → Bool) (table : List (List ℕ × A))
     → each (λ e. printable e.1) table ≡ true → (t : Tok) (v : A) → is_given t ≡ true
     → word_in table t ≡ Some v → printable v ≡ true
-word_given printable table h (Keyword w) v a e = look_up_printable printable table w v h e
+word_given printable table h (Keyword w) v a e = entry_passes (λ u x. printable x) table w v h e
 word_given printable table h LParen v a e = absurd cc
 word_given printable table h _ v a e = absurd cc
 
@@ -85,25 +80,17 @@ pub only_word_in : {A : Type 0} (table : List (List ℕ × A)) (printable : A �
 only_word_in table printable h =
     only_one (word_in table) (refl, refl) printable (word_given printable table h)
 
-where_holds : {A : Type 0} {g h : Production A} {printable : A → Bool} (test : List Tok → Bool)
+where_holds : {A : Type 0} {g h : Production A} {printable : A → Bool} (test : Test)
     → OnlyPrintable g printable → OnlyPrintable h printable → (v : A) (c r : List Tok)
     → each is_given c ≡ true
     → (where_else test g h).spells v c r → printable v ≡ true
 where_holds test m n v c r a s =
     elim s [ inl k ↦ m.holds v c r a k.1 | inr k ↦ n.holds v c r a k.1 ]
 
-pub only_where : {A : Type 0} {g h : Production A} {printable : A → Bool} (test : List Tok → Bool)
+pub only_where : {A : Type 0} {g h : Production A} {printable : A → Bool} (test : Test)
     → OnlyPrintable g printable → OnlyPrintable h printable
     → OnlyPrintable (where_else test g h) printable
 only_where test m n = record { holds = where_holds test m n }
-
-pub only_paren : {A : Type 0} {g : Production A} {printable : A → Bool} → OnlyPrintable g printable
-    → OnlyPrintable (paren g) printable
-only_paren m =
-    record {
-      holds = λ v c r a s. (let p = given_parts c (LParen ∷ s.0) (RParen ∷ []) s.1 a in
-          m.holds v s.0 (RParen ∷ r) p.0 s.2);
-    }
 
 many_holds : {A : Type 0} {g : Production A} {printable : A → Bool} (begins : List Tok → Bool)
     → OnlyPrintable g printable → (vs : List A) (c r : List Tok) → each is_given c ≡ true
@@ -113,10 +100,10 @@ many_holds begins m (v ∷ vs) c r a s =
     let p = given_parts c s.0 s.1 s.2 a in
     rw (m.holds v s.0 (s.1 ++ r) p.0 s.4) (many_holds begins m vs s.1 r p.1 s.5)
 
-pub only_many : {A : Type 0} {g : Production A} {printable : A → Bool} (begins : List Tok → Bool)
+pub only_many : {A : Type 0} {g : Production A} {printable : A → Bool} (begins : Test)
     (consumes : 1 ≤ g.least) → OnlyPrintable g printable
     → OnlyPrintable (many begins g consumes) (each printable)
-only_many begins consumes m = record { holds = many_holds begins m }
+only_many begins consumes m = record { holds = many_holds (λ t. run begins t) m }
 
 pub only_seq : {A B : Type 0} {g : Production A} {h : Production B} {f : A → Bool} {k : B → Bool}
     → OnlyPrintable g f → OnlyPrintable h k → OnlyPrintable (seq g h) (λ v. f v.0 && k v.1)

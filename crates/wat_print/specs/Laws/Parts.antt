@@ -2,18 +2,18 @@
 use Rattle.std.specs.Prelude.{◌≡◌, ℕ, Bool, true, false, ◌&&◌, List, [], ◌∷◌, ◌++◌, Some, None}
 use Rattle.std.specs.Prelude.{flat_map}
 use Rattle.std.specs.Str.{bytes_eq}
-use Rattle.std.proofs.Common.{refl, subst, sym, append_assoc}
+use Rattle.std.proofs.Common.{refl, subst, sym, append_assoc, ap, ◌∙◌}
 use Rattle.std.proofs.lemmas.Bool.{and_parts}
+use Rattle.std.proofs.Math.Bool.{and_assoc}
 use Rattle.wat_lexer.specs.Token.{Tok, LParen, RParen, Keyword, Annotation}
 use Rattle.wat_tokens.specs.Tests.{begins_word}
 use Rattle.wat_tokens.specs.Production.{Production}
 use Rattle.wat_tokens.specs.Parts.{word, flag}
 use Rattle.wat_tokens.specs.Joined.{all_of}
-use Rattle.wat_tokens.specs.Groups.{group}
 use Rattle.wat_tokens.specs.Spelled.{in_parens}
 use Rattle.wat_print.specs.WellFormed.{is_printable, is_keyword, WellFormed, nothing, token}
 use Rattle.wat_print.specs.WellFormed as well_formed
-use Rattle.wat_print.specs.Parts.{grouped, spell_flag, each}
+use Rattle.wat_print.specs.Parts.{spell_flag, each}
 
 -- the tokens spell the value before any rest
 abbrev pub Spells : {A : Type 0} → Production A → A → List Tok → Type 0
@@ -21,19 +21,6 @@ Spells g v c = (r : List Tok) → g.spells v c r
 
 pub word_here : (w : List ℕ) → bytes_eq w w ≡ true → Spells (word w) tt (Keyword w ∷ [])
 word_here w e r = (Keyword w, refl, rw e refl)
-
-pub group_here : {A : Type 0} (w : List ℕ) (g : Production A) (v : A) (d r : List Tok)
-    → bytes_eq w w ≡ true → g.spells v d (RParen ∷ r) → (group w g).spells v (grouped w d) r
-group_here w g v d r e s = (
-  Keyword w ∷ d,
-  refl,
-  (
-    (tt, v),
-    (Keyword w ∷ [], d, refl, word_here w e (d ++ RParen ∷ r), s),
-    refl,
-    refl,
-  ),
-)
 
 pub flag_here : (w : List ℕ) (b : Bool) (r : List Tok) → bytes_eq w w ≡ true
     → begins_word w r ≡ false
@@ -78,20 +65,21 @@ well_formed_flag w false h = nothing
 
 -- ---- lists
 
+pub each_append : {A : Type 0} (test : A → Bool) (vs ws : List A)
+    → each test (vs ++ ws) ≡ (each test vs && each test ws)
+each_append test [] ws = refl
+each_append test (v ∷ vs) ws =
+    ap (λ (b : Bool). test v && b) (each_append test vs ws)
+    ∙ sym (and_assoc (test v) (each test vs) (each test ws))
+
 pub each_both : {A : Type 0} (test : A → Bool) (vs ws : List A) → each test vs ≡ true
     → each test ws ≡ true → each test (vs ++ ws) ≡ true
-each_both test [] ws f g = g
-each_both test (v ∷ vs) ws f g =
-    let p = and_parts (test v) (each test vs) f in
-    rw (p.0) (each_both test vs ws p.1 g)
+each_both test vs ws f g = rw (each_append test vs ws, f, g) refl
 
 pub each_front : {A : Type 0} (test : A → Bool) (vs ws : List A) → each test (vs ++ ws) ≡ true
     → (each test vs ≡ true) × (each test ws ≡ true)
-each_front test [] ws f = (refl, f)
-each_front test (v ∷ vs) ws f =
-    let a = and_parts (test v) (each test (vs ++ ws)) f in
-    let b = each_front test vs ws a.1 in
-    (rw (a.0) (b.0), b.1)
+each_front test vs ws f =
+    and_parts (each test vs) (each test ws) (sym (each_append test vs ws) ∙ f)
 
 -- each part of each group passes the test
 pub each_all : {A : Type 0} (test : A → Bool) (gs : List (List A))

@@ -7,9 +7,10 @@ use Rattle.std.proofs.lemmas.Bool.{ltb-true}
 use Rattle.std.proofs.lemmas.Bool.Decides.{nat_tests}
 use Rattle.wat_lexer.specs.Number.{unsigned_value}
 use Rattle.wat_lexer.specs.Token.{Tok, LParen, Keyword, Id, Integer}
-use Rattle.wat_tokens.specs.Begin.{begins_one_of}
-use Rattle.wat_tokens.specs.Index.{Idx, number, name, index, index_of, begins_index}
-use Rattle.wat_tokens.specs.Tests.{begins_group, word_in}
+use Rattle.wat_tokens.specs.Index.{Idx, number, name, index, index_of, at_index}
+use Rattle.wat_tokens.specs.Tests.{word_in}
+use Rattle.wat_tokens.specs.Test.{at_group, at_listed, run}
+use Rattle.wat_tokens.specs.Parts.{one}
 use Rattle.wat_types.specs.Heap.{concrete, exact, abstract_, heap_type, abstract_heap_type}
 use Rattle.wat_types.specs.Heap.{abstract_word, abstract_words}
 use Rattle.wat_types.specs.Reference.{ref_type, shorthand_for, shorthand, short, shorthand_words}
@@ -77,31 +78,38 @@ index_prints = record {
   only = λ i c r a s. (i, refl, index_only.holds i c r a s);
 }
 
+-- ---- words of a table
+
+pub named_prints : {A : Type 0} (table : List (List ℕ × A)) (word : A → List ℕ)
+    → ((v : A) → is_keyword (word v) ≡ true)
+    → ((v : A) → word_in table (Keyword (word v)) ≡ Some v)
+    → Prints (named_form word) (one (word_in table) (refl, refl))
+named_prints table word fits reads =
+    one_prints (word_in table) (refl, refl) (λ v. Keyword (word v)) (λ _. true) (OfNamed word)
+    (λ rest test f v y h k. f v y k) (λ v h. fits v) (λ v h. reads v) (λ t v a e. refl)
+
 -- ---- heap types
 
 abstract_fits : (t : AbstractHeapType) → is_keyword (abstract_word t) ≡ true
 abstract_fits word.Func = refl
 abstract_fits _ = refl
 
-abstract_reads : (t : AbstractHeapType)
+pub abstract_reads : (t : AbstractHeapType)
     → word_in abstract_words (Keyword (abstract_word t)) ≡ Some t
 abstract_reads word.Func = refl
 abstract_reads _ = refl
 
 pub abstract_prints : Prints abstract_form abstract_heap_type
 unfolding abstract_heap_type
-abstract_prints =
-    one_prints (word_in abstract_words) (refl, refl) (λ t. Keyword (abstract_word t)) (λ _. true)
-    (OfNamed abstract_word) (λ rest test f t y h k. f t y k) (λ t h. abstract_fits t)
-    (λ t h. abstract_reads t) (λ x t a e. refl)
+abstract_prints = named_prints abstract_words abstract_word abstract_fits abstract_reads
 
 pub heap_prints : Prints heap_form heap_type
 unfolding heap_type
 heap_prints =
-    whole_prints (else_prints begins_index (made_prints index_prints concrete)
-    (else_prints (begins_group (codes "exact"))
+    whole_prints (else_prints at_index (made_prints index_prints concrete)
+    (else_prints (at_group (codes "exact"))
     (made_prints (group_prints index_prints (codes "exact") refl refl) exact)
-    (else_prints (begins_group (codes "shared"))
+    (else_prints (at_group (codes "shared"))
     (made_prints (group_prints abstract_prints (codes "shared") refl refl) (λ t. abstract_ true t))
     (made_prints abstract_prints (λ t. abstract_ false t)) (search rules) (search rules))
     (search rules) (search rules)) (search rules) (search rules)) heap_parts (λ h k. grind arith)
@@ -147,11 +155,11 @@ no_short w a t =
 pub ref_prints : Prints ref_form ref_type
 unfolding ref_type
 ref_prints =
-    whole_prints (else_prints (begins_group (codes "ref"))
+    whole_prints (else_prints (at_group (codes "ref"))
     (made_prints (group_prints (seq_prints (flag_prints (codes "null") refl refl) heap_prints
     (search (rules, no_null))) (codes "ref") refl refl)
     (λ v. record { nullable = v.0; heap = v.1 }))
-    (else_prints (begins_group (codes "shared"))
+    (else_prints (at_group (codes "shared"))
     (unwritten_prints (made_prints (group_prints short_prints (codes "shared") refl refl)
     (short true))) (made_prints short_prints (short false)) tt (search rules)) (search rules)
     (search rules)) ref_parts (λ r h. grind arith) (λ r h. grind arith) (λ v h. grind arith)
@@ -183,19 +191,19 @@ no_plain w a t =
     (plain_found t)
 
 begins_plain_word : (t : ValTy) (y : List Tok)
-    → begins_one_of (word_in plain_words) (Keyword (plain_word t) ∷ y) ≡ true
+    → run (at_listed plain_words) (Keyword (plain_word t) ∷ y) ≡ true
 begins_plain_word i32 y = refl
 begins_plain_word _ y = refl
 
 short_not_plain : (t : AbstractHeapType) (y : List Tok)
-    → not (begins_one_of (word_in plain_words) (Keyword (short_word t) ∷ y)) ≡ true
+    → not (run (at_listed plain_words) (Keyword (short_word t) ∷ y)) ≡ true
 short_not_plain word.Func y = refl
 short_not_plain _ y = refl
 
 pub val_prints : Prints val_form val_type
 unfolding val_type
 val_prints =
-    whole_prints (else_prints (begins_one_of (word_in plain_words))
+    whole_prints (else_prints (at_listed plain_words)
     (one_prints (word_in plain_words) (refl, refl) (λ t. Keyword (plain_word t)) is_plain
     (OfNamed plain_word) (λ rest test f t y h k. f t y k) plain_fits plain_reads
     (word_given is_plain plain_words refl))

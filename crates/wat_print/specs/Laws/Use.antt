@@ -3,10 +3,11 @@ use Rattle.std.specs.Prelude.{◌≡◌, true, false, ◌&&◌, List, [], ◌∷
 use Rattle.std.proofs.Common.{rules, refl}
 use Rattle.wat_lexer.specs.Token.{Tok}
 use Rattle.wat_tokens.specs.Production.{Production}
+use Rattle.wat_tokens.specs.Test.{second_word}
 use Rattle.wat_types.specs.Function.{function_groups, function_type}
 use Rattle.wat_types.specs.FunctionNoNames.{function_type_no_names}
 use Rattle.wat_types.specs.FunctionSpells.{FunctionSpells}
-use Rattle.wat_types.specs.Group.{Group, param, result, FuncTy, begins_func, group_follows}
+use Rattle.wat_types.specs.Group.{Group, param, result, FuncTy, begins_func, group_follows, at_func}
 use Rattle.wat_types.specs.Laws.FunctionSpells.{function_to, function_from}
 use Rattle.wat_types.specs.Use.{UseTy, use_of, type_follows, type_use}
 use Rattle.wat_print.specs.Form.{Test, any, Form}
@@ -68,19 +69,19 @@ module _ {inline : Form FuncTy} {g : Production FuncTy} (p : Prints inline g)
     (begins : Must inline.empty (inline.Fronts any begins_func))
     (behind : inline.Fronts any type_index_form.follows)
   where
-    pub use_prints_of : Prints (use_form_of inline) (type_use begins_func g)
+    pub use_prints_of : Prints (use_form_of inline) (type_use at_func g)
     unfolding type_use
     use_prints_of =
-        whole_prints (made_prints (seq_prints (option_prints type_follows
+        whole_prints (made_prints (seq_prints (option_prints (second_word (codes "type"))
         (group_prints index_prints (codes "type") refl refl) (search rules))
-        (option_prints begins_func p begins) behind) (λ v. use_of v.0 v.1)) use_parts (λ u h. refl)
+        (option_prints at_func p begins) behind) (λ v. use_of v.0 v.1)) use_parts (λ u h. refl)
         sure (λ v h. h)
 
-pub use_prints : Prints use_form (type_use begins_func function_type)
+pub use_prints : Prints use_form (type_use at_func function_type)
 use_prints =
     use_prints_of inline_prints (λ u h. h) (search rules) (search rules)
 
-pub unnamed_use_prints : Prints unnamed_use_form (type_use begins_func function_type_no_names)
+pub unnamed_use_prints : Prints unnamed_use_form (type_use at_func function_type_no_names)
 unnamed_use_prints =
     use_prints_of (unnamed_by inline_form inline_prints (λ f. refl)) (λ u h. h)
     (search rules) (search rules)

@@ -8,18 +8,19 @@ use Rattle.std.proofs.lemmas.Bool.{and_parts, cond_both, eqb-true, ltb-true, or_
 use Rattle.std.proofs.lemmas.Fmt.{decimal_is_IsNumeral}
 use Rattle.wat_lexer.specs.Number.{unsigned_value, sign_of}
 use Rattle.wat_lexer.specs.Token.{Tok, LParen, Keyword, Integer}
-use Rattle.wat_tokens.specs.Index.{number, name, begins_index}
+use Rattle.wat_tokens.specs.Index.{number, name, begins_index, at_index}
 use Rattle.wat_tokens.specs.Parts.{seq, opt}
 use Rattle.wat_tokens.specs.Production.{Production}
-use Rattle.wat_tokens.specs.Tests.{begins_word}
-use Rattle.wat_operands.specs.Align.{past_front, number_behind, field, number_in}
+use Rattle.wat_tokens.specs.Test.{at_word, second_word}
+use Rattle.wat_tokens.specs.Kind.{past_front}
+use Rattle.wat_operands.specs.Align.{number_behind, field, number_in}
 use Rattle.wat_operands.specs.Lanes.{lane_of, lane_arg, lane_in, access_of, goes_on, is_alone}
 use Rattle.wat_operands.specs.Lanes.{LaneAccessTy, lane_access}
 use Rattle.wat_operands.specs.Laws.Power.{power_of_two-holds, power_of_two-tested}
-use Rattle.wat_operands.specs.Memory.{TargetTy, memory, array, target, array_follows, begins_with}
+use Rattle.wat_operands.specs.Memory.{TargetTy, memory, array, target, array_follows}
 use Rattle.wat_operands.specs.Memory.{offset_or_0, align, align_or, MemArgTy, mem_arg_of, mem_arg}
-use Rattle.wat_operands.specs.Memory.{ordering_as, with_ordering, atomic_mem_arg}
-use Rattle.wat_operands.specs.Ordering.{ordering, begins_ordering, ordered}
+use Rattle.wat_operands.specs.Memory.{ordering_as, with_ordering, atomic_mem_arg, at_front}
+use Rattle.wat_operands.specs.Ordering.{ordering, ordered, at_ordering}
 use Rattle.wat_operands.specs.Tables.{index_or_0}
 use Rattle.wat_operands.specs.declared.lanes.LaneArg.{LaneArg}
 use Rattle.wat_operands.specs.declared.memory.MemArgOrdering.{MemArgOrdering}
@@ -58,7 +59,7 @@ use Rattle.wat_print_instr.specs.Laws.Places.{index_or_0_prints}
 target_prints : Prints target_form target
 unfolding target
 target_prints =
-    whole_prints (told_prints no_type array_follows
+    whole_prints (told_prints no_type (second_word (codes "type"))
     (made_prints (group_prints index_prints (codes "type") refl refl) array)
     (made_prints index_or_0_prints memory) (λ i r h k. refl) (search rules)) target_parts
     (λ t h. grind arith) (λ t h. h) (λ v h. grind arith)
@@ -94,7 +95,7 @@ field_prints front chars =
 offset_prints : Prints offset_form offset_or_0
 unfolding offset_or_0 past_front
 offset_prints =
-    default_prints (begins_with (codes "offset="))
+    default_prints (at_front (codes "offset="))
     (field_prints (codes "offset=") (λ n lt. rw (number_chars n lt) refl)) (λ n y h. refl) is_u64
     (λ n. n == 0) 0 (λ n e. sym (eqb-true n 0 e)) (λ n e h. h) (λ n h. h) refl
 
@@ -117,7 +118,7 @@ power_prints =
 align_prints : (a : ℕ) → Prints (align_form a) (align_or a)
 unfolding align_or past_front
 align_prints a =
-    default_prints (begins_with (codes "align=")) power_prints (λ n y h. refl)
+    default_prints (at_front (codes "align=")) power_prints (λ n y h. refl)
     (λ n. (n == a) || is_alignment n) (λ n. n == a) a (λ n e. sym (eqb-true n a e))
     (λ n e h. rw e at h) (λ n h. or_right (n == a) (is_alignment n) h) (rw (same_number a) refl)
 
@@ -153,14 +154,14 @@ access_prints a =
 pub ordering_prints : Prints ordering_form ordering
 unfolding ordering
 ordering_prints =
-    whole_where (else_prints (begins_word (codes "seqcst"))
+    whole_where (else_prints (at_word (codes "seqcst"))
     (made_prints (word_prints (codes "seqcst") refl refl) (λ _. SeqCst))
     (made_prints (word_prints (codes "acqrel") refl refl) (λ _. AcqRel)) (search rules)
     (search rules)) ordering_parts (λ _. true) (λ o h. grind arith) (λ o h. grind arith)
     (λ v h. refl)
 
-pub fence_prints : Prints fence_form (opt begins_ordering ordering)
-fence_prints = option_prints begins_ordering ordering_prints (search rules)
+pub fence_prints : Prints fence_form (opt at_ordering ordering)
+fence_prints = option_prints at_ordering ordering_prints (search rules)
 
 pub ordered_prints : {A : Type 0} {p : Form A} {g : Production A} → Prints p g → p.Fronts any any
     → Prints (ordered_form p) (ordered g)
@@ -247,9 +248,9 @@ full_target : Unparses
     (pick array (λ o. memory (unwrap_or o (number 0)))) target
 unfolding target index_or_0
 full_target =
-    told_prints no_type array_follows
+    told_prints no_type (second_word (codes "type"))
     (made_prints (group_prints index_prints (codes "type") refl refl) array)
-    (made_prints (made_prints (filled_prints begins_index index_prints (search rules))
+    (made_prints (made_prints (filled_prints at_index index_prints (search rules))
     (λ o. unwrap_or o (number 0))) memory) (λ i r h k. refl) (search rules)
 
 target_here : (t : TargetTy) (x : List Tok) → target_form.ready t ≡ true → no_type x ≡ true

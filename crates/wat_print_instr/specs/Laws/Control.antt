@@ -6,22 +6,23 @@ use Rattle.wat_tokens.specs.Index.{identifier}
 use Rattle.wat_tokens.specs.Joined.{all_of, joined}
 use Rattle.wat_tokens.specs.NameAnnotation.{begins_name}
 use Rattle.wat_tokens.specs.Parts.{opt}
-use Rattle.wat_tokens.specs.Tests.{begins_word, begins_id, more}
+use Rattle.wat_tokens.specs.Tests.{begins_id}
+use Rattle.wat_tokens.specs.Test.{at_id, at_more, at_word}
 use Rattle.wat_types.specs.Group.{val_types}
 use Rattle.wat_types.specs.Laws.Value.{val_type_consumes}
 use Rattle.wat_operands.specs.Block.{block_of, block_type}
 use Rattle.wat_operands.specs.Call.{call_of, call_indirect}
 use Rattle.wat_operands.specs.Casts.{branch_of, cast_branch}
 use Rattle.wat_operands.specs.CatchClause.{catch_of, catch_kind, catch_clause}
-use Rattle.wat_operands.specs.Catches.{try_of, begins_catch, try_table}
+use Rattle.wat_operands.specs.Catches.{try_of, try_table, at_catch}
 use Rattle.wat_operands.specs.Handler.{aim, handler_to, handler}
-use Rattle.wat_operands.specs.Handlers.{begins_handler, resume_table, resume_of, resume, throw_of}
-use Rattle.wat_operands.specs.Handlers.{resume_throw}
+use Rattle.wat_operands.specs.Handlers.{resume_table, resume_of, resume, throw_of}
+use Rattle.wat_operands.specs.Handlers.{resume_throw, at_handler}
 use Rattle.wat_operands.specs.Laws.Catches.{catch_clause_consumes}
 use Rattle.wat_operands.specs.Laws.Handlers.{handler_consumes}
 use Rattle.wat_operands.specs.Laws.Select.{result_group_consumes}
 use Rattle.wat_operands.specs.ResultGroup.{result_group}
-use Rattle.wat_operands.specs.Select.{result_follows, select_types}
+use Rattle.wat_operands.specs.Select.{select_types, at_result}
 use Rattle.wat_operands.specs.declared.catches.CatchKind.TheVariants.{Catch, CatchRef, CatchAll}
 use Rattle.wat_operands.specs.declared.catches.CatchKind.TheVariants.{CatchAllRef}
 use Rattle.wat_print.specs.Form.{any}
@@ -63,21 +64,21 @@ call_prints =
     whole_prints (made_prints (seq_prints index_or_0_prints unnamed_use_prints (search rules))
     (λ v. call_of v.0 v.1)) call_parts (λ c h. refl) (λ c h. h) (λ v h. h)
 
-pub end_label_prints : Prints end_label_form (opt begins_id identifier)
-end_label_prints = option_prints begins_id id_prints (search rules)
+pub end_label_prints : Prints end_label_form (opt at_id identifier)
+end_label_prints = option_prints at_id id_prints (search rules)
 
 -- ---- the types of a select
 
 result_prints : Prints result_form result_group
 unfolding val_types
 result_prints =
-    group_prints (many_prints more val_prints val_type_consumes (search rules) (search rules))
+    group_prints (many_prints at_more val_prints val_type_consumes (search rules) (search rules))
     (codes "result") refl refl
 
 results_prints : Prints results_form
-    (joined result_follows result_group result_group_consumes)
+    (joined at_result result_group result_group_consumes)
 results_prints =
-    let p = respelled (whole_where (made_prints (many_prints result_follows result_prints
+    let p = respelled (whole_where (made_prints (many_prints at_result result_prints
     result_group_consumes (search rules) (search rules)) (λ gs. all_of gs)) by_itself
     vals_form.printable (λ ts h. append-nil ts) (λ ts h. and_also (vals_form.printable ts) h)
     (λ gs h. each_all val_form.printable gs h)) result_form.spell
@@ -91,7 +92,7 @@ results_prints =
 
 pub select_prints : Prints select_form select_types
 unfolding select_types
-select_prints = option_prints result_follows results_prints (search rules)
+select_prints = option_prints at_result results_prints (search rules)
 
 -- ---- casts
 
@@ -107,11 +108,11 @@ branch_prints =
 catch_kind_prints : Prints catch_kind_form catch_kind
 unfolding catch_kind
 catch_kind_prints =
-    whole_prints (else_prints (begins_word (codes "catch"))
+    whole_prints (else_prints (at_word (codes "catch"))
     (made_prints (after_prints index_prints (codes "catch") refl refl) Catch)
-    (else_prints (begins_word (codes "catch_ref"))
+    (else_prints (at_word (codes "catch_ref"))
     (made_prints (after_prints index_prints (codes "catch_ref") refl refl) CatchRef)
-    (else_prints (begins_word (codes "catch_all"))
+    (else_prints (at_word (codes "catch_all"))
     (made_prints (word_prints (codes "catch_all") refl refl) (λ _. CatchAll))
     (made_prints (word_prints (codes "catch_all_ref") refl refl) (λ _. CatchAllRef))
     (search rules) (search rules)) (search rules) (search rules)) (search rules) (search rules))
@@ -126,7 +127,7 @@ catch_prints =
 pub try_prints : Prints try_form try_table
 unfolding try_table
 try_prints =
-    whole_prints (made_prints (seq_prints block_prints (many_prints begins_catch catch_prints
+    whole_prints (made_prints (seq_prints block_prints (many_prints at_catch catch_prints
     catch_clause_consumes (search rules) (search rules)) (search rules)) (λ v. try_of v.0 v.1))
     try_parts (λ t h. refl) (λ t h. h) (λ v h. h)
 
@@ -135,7 +136,7 @@ try_prints =
 aim_prints : Prints aim_form aim
 unfolding aim
 aim_prints =
-    whole_prints (else_prints (begins_word (codes "switch"))
+    whole_prints (else_prints (at_word (codes "switch"))
     (made_prints (word_prints (codes "switch") refl refl) (λ _. None))
     (made_prints index_prints Some) (search rules) (search rules)) aim_parts (λ o h. grind arith)
     (λ o h. h) (λ v h. grind arith)
@@ -150,7 +151,7 @@ handler_prints =
 pub resume_table_prints : Prints resume_table_form resume_table
 unfolding resume_table
 resume_table_prints =
-    many_prints begins_handler handler_prints handler_consumes (search rules) (search rules)
+    many_prints at_handler handler_prints handler_consumes (search rules) (search rules)
 
 pub resume_prints : Prints resume_form resume
 unfolding resume

@@ -10,13 +10,14 @@ use Rattle.std.proofs.lemmas.Bool.Decides.{nat_tests}
 use Rattle.wat_lexer.specs.Token.{Tok, LParen, RParen, Keyword, String}
 use Rattle.wat_tokens.specs.Tests.{begins_word, ends, second}
 use Rattle.wat_mnemonics.specs.Table.{all_ops}
-use Rattle.wat_operands.specs.Align.{past_front}
 use Rattle.wat_mnemonics.specs.Ops.{op_word, op_row}
 use Rattle.wat_mnemonics.specs.Places.{op_of_row}
 use Rattle.wat_mnemonics.specs.declared.op.Op.{Op}
 use Rattle.wat_instr.specs.Follows.{NoTypeSecond}
 use Rattle.wat_instr.specs.Instruction.{Instr}
-use Rattle.wat_instr.specs.Laws.Sees.{fails_at_end}
+use Rattle.wat_tokens.specs.Test.{at_word}
+use Rattle.wat_tokens.specs.Laws.Test.{end_denied}
+use Rattle.wat_tokens.specs.Kind.{past_front}
 use Rattle.wat_expr.specs.Expression.{Expr}
 use Rattle.wat_expr.specs.ExpressionProduction.{expression}
 use Rattle.wat_expr.specs.Items.{Items, Nil, Plain, Hinted, lists, unfolded, hints_behind}
@@ -106,7 +107,7 @@ step_second w a None i s t k e f =
     clear_both w (c ++ s) t (clear_both w c s (operand_clear w a m i.operand b.1) e) f
 
 pub no_word_at_end : (w : List ℕ) (r : List Tok) → ends r ≡ true → begins_word w r ≡ false
-no_word_at_end w r e = fails_at_end (begins_word w) refl (λ x. refl) r e
+no_word_at_end w r e = end_denied (at_word w).asks r refl e
 
 steps_second : (w : List ℕ) → NoOperandWord w → NoMnemonic w
     → (xs : List HintedInstr) (r : List Tok) → each printable_step xs ≡ true

@@ -93,7 +93,7 @@ own_printable gs i f =
     let u = each_front printable_instruction (unfolded_groups gs) (i ∷ []) f in
     (u.0, (and_parts (printable_instruction i) true u.1).0)
 
--- if none of the words `type`, `param` and `result` follows a `)`
+-- groups are read before a rest that may follow an expression in its group
 groups_listed : (gs : Groups) (r : List Tok)
     → each printable_instruction (unfolded_groups gs) ≡ true
     → Readable gs → EndsExpression (RParen ∷ r) → groups gs (spell_groups gs ++ r) r

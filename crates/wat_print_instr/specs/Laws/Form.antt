@@ -6,20 +6,22 @@ use Rattle.std.proofs.lemmas.Bool.{and_parts, cond_both}
 use Rattle.wat_lexer.specs.Token.{Tok}
 use Rattle.wat_tokens.specs.Parts.{made, opt, seq}
 use Rattle.wat_tokens.specs.Production.{Production}
+use Rattle.wat_tokens.specs.Test as asked
+use Rattle.wat_tokens.specs.Test.{run}
 use Rattle.wat_tokens.specs.Tests.{none_left}
 use Rattle.wat_print.specs.Form.{Test, any, Form}
 use Rattle.wat_print.specs.Parts.{if_some}
 use Rattle.wat_print.specs.Printed.{Printing}
-use Rattle.wat_print.specs.Prints.{Prints, Unparses, Passes, Nests, Must}
+use Rattle.wat_print.specs.Prints.{Prints, Unparses, Nests, Must}
 use Rattle.wat_print.specs.WellFormed.{WellFormed}
-use Rattle.wat_print.specs.Laws.Form.{made_prints, option_prints, whole_where}
+use Rattle.wat_print.specs.Laws.Form.{made_prints, option_prints, whole_where, passes_of}
 use Rattle.wat_print.specs.Laws.Only.{OnlyPrintable, given_parts}
 use Rattle.wat_print.specs.Laws.Parts.{well_formed_both}
 use Rattle.wat_print_instr.specs.Form.{unless, default_form, next_form, plain_form, exactly}
 
 -- d is the default
-module _ {A : Type 0} {form : Form A} {g : Production A} (begins : Test) (p : Prints form g)
-    (m : Must form.empty (form.Fronts any begins)) (printable is_default : A → Bool) (d : A)
+module _ {A : Type 0} {form : Form A} {g : Production A} (begins : asked.Test) (p : Prints form g)
+    (m : Must form.empty (form.Fronts any (λ t. run begins t))) (printable is_default : A → Bool) (d : A)
     (same : (v : A) → is_default v ≡ true → d ≡ v)
     (ready : (v : A) → is_default v ≡ false → printable v ≡ true → form.ready v ≡ true)
     (found : (v : A) → form.printable v ≡ true → printable v ≡ true)
@@ -40,15 +42,11 @@ module _ {A : Type 0} {form : Form A} {g : Production A} (begins : Test) (p : Pr
     found_or_default (Some v) h = found v h
     found_or_default None h = absent
 
-    pub default_prints : Prints (default_form printable begins is_default form)
+    pub default_prints : Prints (default_form printable (λ t. run begins t) is_default form)
         (made (λ o. unwrap_or o d) (opt begins g))
     default_prints =
         whole_where (made_prints (option_prints begins p m) (λ o. unwrap_or o d))
         (unless is_default) printable (λ v h. unless_is v) unless_ready found_or_default
-
-pub passes_of : (e : Bool) (test : Test) (r : List Tok) → test r ≡ true → Passes e test r
-passes_of true test r h = h
-passes_of false test r h = tt
 
 module _ {A B C D : Type 0} {form : Form A} {other : Form B} {view : A → C} {also : B → D}
     {g : Production C} {h : Production D} (ends : Test) (p : Unparses form view g)

@@ -18,7 +18,7 @@ use Rattle.wat_print.specs.Form.{Test, any}
 use Rattle.wat_print.specs.Reference.{short_word}
 use Rattle.wat_print.specs.Laws.Form.{not_true}
 use Rattle.wat_print_instr.specs.InstructionForm.{operand_form}
-use Rattle.wat_print_instr.specs.Laws.Form.{passes_of}
+use Rattle.wat_print.specs.Laws.Form.{passes_of}
 use Rattle.wat_print_instr.specs.Laws.Instruction.{operand_prints, operand_ready}
 
 -- ---- the words that are written in operands

@@ -4,7 +4,7 @@ use Rattle.std.proofs.Common.{rules, refl, ap, sym, ◌∙◌, append_assoc, app
 use Rattle.std.proofs.lemmas.Bool.{and_parts}
 use Rattle.std.proofs.lemmas.Grind.{flat_map-append}
 use Rattle.wat_lexer.specs.Token.{Tok}
-use Rattle.wat_tokens.specs.Index.{Idx, number, begins_index}
+use Rattle.wat_tokens.specs.Index.{Idx, number, begins_index, at_index, at_second_index}
 use Rattle.wat_tokens.specs.Tests.{second}
 use Rattle.wat_operands.specs.Aggregates.{array_of_length}
 use Rattle.wat_operands.specs.Branch.{br_table_of, BrTableSpells, split, split_list}
@@ -32,7 +32,7 @@ is_0 i e = grind arith
 pub index_or_0_prints : Prints index_or_0_form index_or_0
 unfolding index_or_0
 index_or_0_prints =
-    default_prints begins_index index_prints (search rules) printable_index is_index_0 (number 0)
+    default_prints at_index index_prints (search rules) printable_index is_index_0 (number 0)
     is_0 (λ i e h. h) (λ i h. h) refl
 
 -- ---- two indices
@@ -49,14 +49,14 @@ pair_second p r h =
 pub init_prints : Prints init_form init
 unfolding init
 init_prints =
-    whole_where (told_prints (λ r. not (begins_index r)) (second begins_index) pair_prints
+    whole_where (told_prints (λ r. not (begins_index r)) at_second_index pair_prints
     (made_prints index_prints into_0) (λ p r h e. pair_second p r h) (search rules)) init_parts
     pair_form.printable (λ p h. grind (arith, is_0)) (λ p h. grind arith) (λ v h. grind arith)
 
 pub copy_prints : Prints copy_form copy
 unfolding copy
 copy_prints =
-    default_prints begins_index pair_prints (search rules) pair_form.printable both_0
+    default_prints at_index pair_prints (search rules) pair_form.printable both_0
     (number 0, number 0) (λ p e. grind (arith, is_0)) (λ p e h. h) (λ p h. h) refl
 
 -- ---- an index and a length
@@ -109,7 +109,7 @@ pub br_table_prints : Prints br_table_form br_table
 unfolding br_table
 br_table_prints =
     respelled (whole_where (restated_prints (made_prints (seq_prints index_prints
-    (many_prints begins_index index_prints (lit≤ tt) (search rules) (search rules))
+    (many_prints at_index index_prints (lit≤ tt) (search rules) (search rules))
     (search rules)) split_list) BrTableSpells br_table_to br_table_from)
     (λ b. table_from b.labels b.default) printable_br_table (λ b h. table_whole b.labels b.default)
     (λ b h. table_ready b.labels b.default h) (λ v h. table_covers v.0 v.1 h))

@@ -11,7 +11,8 @@ use Rattle.wat_lexer.specs.Token.{Tok, Integer}
 use Rattle.wat_tokens.specs.Floats.{none}
 use Rattle.wat_tokens.specs.Many.{many}
 use Rattle.wat_tokens.specs.Production.{Production}
-use Rattle.wat_tokens.specs.Tests.{begins_word, begins_integer}
+use Rattle.wat_tokens.specs.Tests.{begins_integer}
+use Rattle.wat_tokens.specs.Test.{at_integer, at_word}
 use Rattle.wat_operands.specs.Vector.{two, twice, four, eight, sixteen, shaped, float_const}
 use Rattle.wat_operands.specs.Vector.{wide_const, v128_const, shuffle_of, shuffle}
 use Rattle.wat_operands.specs.declared.vector.V128Const.{V128Const}
@@ -45,8 +46,8 @@ module _ {A : Type 0} {g : Production A} (token : A → Tok) (ok : A → Bool)
     spell_all vs = flat_map (λ v. token v ∷ []) vs
 
     all_prints : Prints (many_form begins_integer (token_form token ok OfIntegers))
-        (many begins_integer g consumes)
-    all_prints = many_prints begins_integer p consumes (search rules) (search rules)
+        (many at_integer g consumes)
+    all_prints = many_prints at_integer p consumes (search rules) (search rules)
 
     number_nests : (n : ℕ) (vs : List A) → printable_number_of n ok vs ≡ true
         → WellFormed (spell_all vs)
@@ -171,16 +172,16 @@ shape_prints w n bits k e f p =
 pub vector_prints : Prints vector_form v128_const
 unfolding v128_const wide_const
 vector_prints =
-    whole_prints (else_prints (begins_word (codes "i8x16"))
+    whole_prints (else_prints (at_word (codes "i8x16"))
     (shape_prints (codes "i8x16") 16 8 refl refl I8x16
     (sixteen_prints (λ z. Integer (signed_decimal z)) (is_signed 8) (signed_prints 8 halves_8)
-    (lit≤ tt))) (else_prints (begins_word (codes "i16x8"))
+    (lit≤ tt))) (else_prints (at_word (codes "i16x8"))
     (shape_prints (codes "i16x8") 8 16 refl refl I16x8
     (eight_prints (λ z. Integer (signed_decimal z)) (is_signed 16) (signed_prints 16 halves_16)
-    (lit≤ tt))) (else_prints (begins_word (codes "i32x4"))
+    (lit≤ tt))) (else_prints (at_word (codes "i32x4"))
     (shape_prints (codes "i32x4") 4 32 refl refl I32x4
     (four_prints (λ z. Integer (signed_decimal z)) (is_signed 32) (signed_prints 32 halves_32)
-    (lit≤ tt))) (else_prints (begins_word (codes "i64x2"))
+    (lit≤ tt))) (else_prints (at_word (codes "i64x2"))
     (shape_prints (codes "i64x2") 2 64 refl refl I64x2
     (two_prints (λ z. Integer (signed_decimal z)) (is_signed 64) (signed_prints 64 halves_64)
     (lit≤ tt))) (never_prints (λ u. F32x4 []) float_const no_floats)

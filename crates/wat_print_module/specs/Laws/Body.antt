@@ -6,7 +6,8 @@ use Rattle.wat_lexer.specs.Token.{Tok, LParen, Keyword}
 use Rattle.wat_types.specs.Group.{begins_func}
 use Rattle.wat_mnemonics.specs.Ops.{op_word}
 use Rattle.wat_mnemonics.specs.declared.op.Op.{Op}
-use Rattle.wat_instr.specs.Laws.Sees.{fails_at_end}
+use Rattle.wat_tokens.specs.Laws.Test.{end_denied}
+use Rattle.wat_types.specs.Group.{at_func}
 use Rattle.wat_expr.specs.Items.{hint_name}
 use Rattle.wat_fields.specs.Local.{local_follows}
 use Rattle.wat_print.specs.Form.{Test, any}
@@ -42,5 +43,5 @@ behind_use e r f k h =
     let a = end_of r k in
     let n = expression_no_type e r f a in
     let b = expression_first begins_func (λ o y. refl) (λ y. refl) e r
-    (fails_at_end begins_func refl (λ x. refl) r a.0) in
+    (end_denied at_func.asks r refl a.0) in
     rw (n.0, b, n.1, n.2) refl

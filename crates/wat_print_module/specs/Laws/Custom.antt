@@ -4,8 +4,8 @@ use Rattle.std.proofs.Common.{refl, rules, arith, lit≤}
 use Rattle.wat_tokens.specs.Groups.{paren}
 use Rattle.wat_tokens.specs.Many.{many}
 use Rattle.wat_tokens.specs.Strings.{string}
-use Rattle.wat_tokens.specs.Tests.{more}
-use Rattle.wat_links.specs.Custom.{raw, produced, linked, begins_annotated, custom}
+use Rattle.wat_tokens.specs.Test.{at_more}
+use Rattle.wat_links.specs.Custom.{raw, produced, linked, custom, at_annotated}
 use Rattle.wat_links.specs.Raw.{raw_of, raw_data, raw_custom}
 use Rattle.wat_print.specs.Form.{paren_form}
 use Rattle.wat_print.specs.Prints.{Prints, Inside}
@@ -21,8 +21,8 @@ use Rattle.wat_print_module.specs.Laws.Producers.{producers_inside}
 
 -- ---- raw sections
 
-pub pieces_prints : Prints pieces_form (many more string (lit≤ tt))
-pieces_prints = many_prints more string_prints (lit≤ tt) (search rules) (search rules)
+pub pieces_prints : Prints pieces_form (many at_more string (lit≤ tt))
+pieces_prints = many_prints at_more string_prints (lit≤ tt) (search rules) (search rules)
 
 raw_inside : Inside raw_form (λ v. v) raw_custom
 unfolding raw_custom raw_data
@@ -40,9 +40,9 @@ raw_prints = grouped_prints raw_inside
 pub custom_inside : Inside custom_form (λ v. v) custom
 unfolding custom
 custom_inside =
-    whole_prints (else_inside (begins_annotated (codes "producers"))
+    whole_prints (else_inside (at_annotated (codes "producers"))
     (made_prints producers_inside produced)
-    (else_inside (begins_annotated (codes "dylink.0")) (made_prints dylink_inside linked)
+    (else_inside (at_annotated (codes "dylink.0")) (made_prints dylink_inside linked)
     (made_prints raw_inside raw) (search rules) (search rules)) (search rules)
     (search rules)) custom_parts (λ v h. grind arith) (λ v h. grind arith) (λ v h. grind arith)
 

@@ -1,7 +1,7 @@
 -- Laws: the places of custom sections are read again.
 use Rattle.std.specs.Prelude.{true, codes, unwrap_or}
 use Rattle.std.proofs.Common.{rules, refl, arith}
-use Rattle.wat_tokens.specs.Tests.{begins_word, begins_lparen}
+use Rattle.wat_tokens.specs.Test.{at_lparen, at_word}
 use Rattle.wat_links.specs.CustomPlace.{anchor_words, section, before, after, custom_place}
 use Rattle.wat_links.specs.Raw.{raw_place}
 use Rattle.wat_links.specs.declared.custom_place.CustomPlace.TheVariants.{BeforeFirst, Before}
@@ -11,7 +11,7 @@ use Rattle.wat_print.specs.Laws.Form.{word_prints, made_prints, whole_where, els
 use Rattle.wat_print.specs.Laws.Form.{option_prints, paren_prints, after_prints}
 use Rattle.wat_print_module.specs.CustomPlace.{section_word, section_form, place_parts, place_form}
 use Rattle.wat_print_module.specs.CustomPlace.{unless_last, place_group_form}
-use Rattle.wat_print_module.specs.Laws.Forms.{named_prints}
+use Rattle.wat_print.specs.Laws.Reference.{named_prints}
 
 pub section_prints : Prints section_form section
 unfolding section
@@ -20,12 +20,12 @@ section_prints = named_prints anchor_words section_word (λ a. grind arith) (λ 
 pub place_prints : Prints place_form custom_place
 unfolding custom_place before after
 place_prints =
-    whole_where (else_prints (begins_word (codes "before"))
-    (after_prints (else_prints (begins_word (codes "first"))
+    whole_where (else_prints (at_word (codes "before"))
+    (after_prints (else_prints (at_word (codes "first"))
     (made_prints (word_prints (codes "first") refl refl) (λ _. BeforeFirst))
     (made_prints section_prints Before) (search rules) (λ a y h. grind arith))
     (codes "before") refl refl)
-    (after_prints (else_prints (begins_word (codes "last"))
+    (after_prints (else_prints (at_word (codes "last"))
     (made_prints (word_prints (codes "last") refl refl) (λ _. AfterLast))
     (made_prints section_prints After) (search rules) (λ a y h. grind arith))
     (codes "after") refl refl) (search rules) (search rules)) place_parts (λ _. true)
@@ -35,6 +35,6 @@ place_prints =
 pub place_group_prints : Prints place_group_form raw_place
 unfolding raw_place
 place_group_prints =
-    whole_where (made_prints (option_prints begins_lparen (paren_prints place_prints)
+    whole_where (made_prints (option_prints at_lparen (paren_prints place_prints)
     (search rules)) (λ p. unwrap_or p AfterLast)) unless_last (λ _. true) (λ p h. grind arith)
     (λ p h. grind arith) (λ v h. refl)

@@ -1,11 +1,12 @@
 -- Laws: data segments are read again.
-use Rattle.std.specs.Prelude.{true, not, codes, unwrap_or}
+use Rattle.std.specs.Prelude.{true, codes, unwrap_or}
 use Rattle.std.proofs.Common.{rules, arith, refl, inr, lit≤}
 use Rattle.wat_tokens.specs.Groups.{paren}
 use Rattle.wat_tokens.specs.Index.{number}
-use Rattle.wat_tokens.specs.Tests.{begins_word, begins_integer}
-use Rattle.wat_fields.specs.Data.{passive, active, data_of, begins_passive, memory_follows}
-use Rattle.wat_fields.specs.Data.{data_memory, data_active, data_kind, data_segment}
+use Rattle.wat_tokens.specs.Test.{at_integer, at_word, opposite_test}
+use Rattle.wat_fields.specs.Data.{passive, active, data_of}
+use Rattle.wat_fields.specs.Data.{data_memory, data_active, data_kind, data_segment, at_memory}
+use Rattle.wat_fields.specs.Data.{at_passive}
 use Rattle.wat_fields.specs.Offset.{head_behind, head_last, offset_inside}
 use Rattle.wat_print.specs.Index.{printable_index}
 use Rattle.wat_print.specs.Prints.{Prints}
@@ -42,15 +43,15 @@ head_only =
 pub offset_prints : Prints offset_form (paren offset_inside)
 unfolding offset_inside
 offset_prints =
-    paren_prints (first_prints (begins_word (codes "offset"))
+    paren_prints (first_prints (at_word (codes "offset"))
     (after_prints expression_prints (codes "offset") refl refl) (λ e r. refl) head_only)
 
 data_memory_prints : Prints data_memory_form data_memory
 unfolding data_memory
 data_memory_prints =
-    whole_where (else_prints begins_integer
+    whole_where (else_prints at_integer
     (unwritten_prints (made_prints (unsigned_prints 32 (lit≤ tt) (lit≤ tt)) number))
-    (default_prints memory_follows (group_prints index_prints (codes "memory") refl refl)
+    (default_prints at_memory (group_prints index_prints (codes "memory") refl refl)
     (search rules) printable_index is_index_0 (number 0) (λ i e. grind arith) (λ i e h. h)
     (λ i h. h) refl) tt
     (search rules)) inr printable_index (λ i h. refl) (λ i h. h) (λ v h. grind arith)
@@ -60,7 +61,7 @@ data_memory_prints =
 data_kind_prints : Prints data_kind_form data_kind
 unfolding data_kind data_active
 data_kind_prints =
-    whole_prints (made_prints (option_seen (λ t. not (begins_passive t))
+    whole_prints (made_prints (option_seen (opposite_test at_passive)
     (made_prints (seq_prints data_memory_prints offset_prints (search rules))
     (λ v. active v.0 v.1)) (search rules)) (λ k. unwrap_or k passive)) data_kind_parts
     (λ k h. grind arith) (λ k h. h) (λ v h. grind arith)

@@ -14,7 +14,7 @@ use Rattle.wat_lexer.specs.Token.{Integer}
 use Rattle.wat_tokens.specs.Integers.{signed}
 use Rattle.wat_tokens.specs.Joined.{all_of, joined}
 use Rattle.wat_tokens.specs.Production.{Production}
-use Rattle.wat_tokens.specs.Tests.{begins_word, begins_lparen, more}
+use Rattle.wat_tokens.specs.Test.{at_lparen, at_more, at_word}
 use Rattle.wat_operands.specs.Vector.{bytes_of, lane_width, lane_numbers, v128_const}
 use Rattle.wat_fields.specs.DataVal.{written, numbers, data_val}
 use Rattle.wat_fields.specs.DataVals.{data_vals}
@@ -93,9 +93,9 @@ bytes_each : (bs : List ℕ) → all_of (map by_itself bs) ≡ bs
 bytes_each [] = refl
 bytes_each (b ∷ bs) = ap (λ (l : List ℕ). b ∷ l) (bytes_each bs)
 
-bytes_prints : Prints bytes_form (joined more (integer_as_bytes w8 8) (lit≤ tt))
+bytes_prints : Prints bytes_form (joined at_more (integer_as_bytes w8 8) (lit≤ tt))
 bytes_prints =
-    whole_where (made_prints (many_seen more byte_prints (lit≤ tt) (search rules) (search rules))
+    whole_where (made_prints (many_seen at_more byte_prints (lit≤ tt) (search rules) (search rules))
     (λ gs. all_of gs)) (λ bs. bs) (each is_byte) (λ bs h. bytes_each bs) (λ bs h. h)
     (λ bs h. rw (bytes_each bs) h)
 
@@ -136,21 +136,21 @@ behind_only : {g : Production (List ℕ)} (w : List ℕ) (consumes : 1 ≤ g.lea
 behind_only w consumes m =
     only_after w (only_made (λ _. true) (λ gs. all_of gs) (each is_byte)
     (only_weaker (λ gs. each is_byte (all_of gs)) (λ gs h. each_all is_byte gs h)
-    (only_many more consumes m)))
+    (only_many at_more consumes m)))
 
 other_only : OnlyPrintable other_numbers (each is_byte)
 unfolding other_numbers
 other_only =
-    only_where (begins_word (codes "f32")) (behind_only (codes "f32") (lit≤ tt) (float_only w32))
-    (only_where (begins_word (codes "f64")) (behind_only (codes "f64") (lit≤ tt) (float_only w64))
+    only_where (at_word (codes "f32")) (behind_only (codes "f32") (lit≤ tt) (float_only w32))
+    (only_where (at_word (codes "f64")) (behind_only (codes "f64") (lit≤ tt) (float_only w64))
     (behind_only (codes "v128") vector_consumes vector_bytes_only))
 
 wide_numbers_only : OnlyPrintable wide_numbers (each is_byte)
 unfolding wide_numbers
 wide_numbers_only =
-    only_where (begins_word (codes "i32"))
+    only_where (at_word (codes "i32"))
     (behind_only (codes "i32") (lit≤ tt) (integer_only w32 32))
-    (only_where (begins_word (codes "i64"))
+    (only_where (at_word (codes "i64"))
     (behind_only (codes "i64") (lit≤ tt) (integer_only w64 64)) other_only)
 
 -- ---- values
@@ -158,9 +158,9 @@ wide_numbers_only =
 pub data_val_prints : Prints data_val_form data_val
 unfolding data_val number_list
 data_val_prints =
-    whole_prints (else_prints begins_lparen (made_prints (paren_prints
-    (first_prints (begins_word (codes "i8")) (after_prints bytes_prints (codes "i8") refl refl)
-    (λ bs r. refl) (only_where (begins_word (codes "i16"))
+    whole_prints (else_prints at_lparen (made_prints (paren_prints
+    (first_prints (at_word (codes "i8")) (after_prints bytes_prints (codes "i8") refl refl)
+    (λ bs r. refl) (only_where (at_word (codes "i16"))
     (behind_only (codes "i16") (lit≤ tt) (integer_only w16 16)) wide_numbers_only))) numbers)
     (made_prints string_prints written) (search rules) (search rules)) data_val_parts
     (λ v h. grind arith) (λ v h. h) (λ v h. grind arith)
@@ -168,4 +168,4 @@ data_val_prints =
 pub data_vals_prints : Prints data_vals_form data_vals
 unfolding data_vals
 data_vals_prints =
-    many_prints more data_val_prints data_val_consumes (search rules) (search rules)
+    many_prints at_more data_val_prints data_val_consumes (search rules) (search rules)

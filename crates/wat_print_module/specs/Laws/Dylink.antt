@@ -1,23 +1,23 @@
 -- Laws: the `dylink.0` section is read again.
 use Rattle.std.specs.Bool.{Decides}
-use Rattle.std.specs.Prelude.{◌≡◌, ℕ, ◌^◌, Bool, true, ◌&&◌, List, [], ◌∷◌, ◌++◌, codes, flat_map}
+use Rattle.std.specs.Prelude.{◌≡◌, ℕ, ◌^◌, true, ◌&&◌, List, [], ◌∷◌, ◌++◌, codes, flat_map}
 use Rattle.std.specs.Prelude.{fold, Some, unwrap_or}
 use Rattle.std.specs.Int.Bits.{bit_or, or_zero_l}
 use Rattle.std.specs.Str.{bytes_eq}
-use Rattle.std.proofs.Common.{refl, rules, arith, ap, sym, ◌∙◌, lit≤}
-use Rattle.std.proofs.Math.Bool.{and_assoc}
+use Rattle.std.proofs.Common.{refl, rules, arith, lit≤}
 use Rattle.std.proofs.lemmas.Bool.{and_parts, lt-ltb, ltb-true}
 use Rattle.std.proofs.lemmas.Bool.Decides.{Decides-and, Decides-like}
 use Rattle.std.proofs.lemmas.Grind.{flat_map-append}
 use Rattle.std.proofs.lemmas.Nat.{or_lt}
 use Rattle.wat_tokens.specs.Groups.{paren}
 use Rattle.wat_tokens.specs.Integers.{unsigned}
-use Rattle.wat_tokens.specs.Tests.{begins_group, begins_word, begins_integer, second, more}
+use Rattle.wat_tokens.specs.Test.{at_group, at_integer, at_more, second_word}
 use Rattle.wat_links.specs.CutForm.{entries}
 use Rattle.wat_links.specs.Cutting.{cut_subsections, dylink}
 use Rattle.wat_links.specs.Dylink.{SubsectionTy, mem_info, needed, export_info, import_info}
 use Rattle.wat_links.specs.Dylink.{runtime_path, target_arch, no_size, sizes, mem_info_entry}
-use Rattle.wat_links.specs.Dylink.{names_entry, lone_entry, begins_export, begins_import}
+use Rattle.wat_links.specs.Dylink.{names_entry, lone_entry, at_export}
+use Rattle.wat_links.specs.Dylink.{at_import}
 use Rattle.wat_links.specs.DylinkEntries.{export_entry, import_of, import_entry}
 use Rattle.wat_links.specs.Entries.{EntryTy, of_export, of_import, other, entry, entries_in}
 use Rattle.wat_links.specs.Entries.{IsFilled, IsApart, AreCut}
@@ -43,6 +43,7 @@ use Rattle.wat_print_instr.specs.Numbers.{is_unsigned, unsigned_form}
 use Rattle.wat_print.specs.Laws.Strings.{text_prints}
 use Rattle.wat_print_instr.specs.Laws.Numbers.{unsigned_prints}
 use Rattle.wat_print.specs.Laws.Annotation.{annotated}
+use Rattle.wat_print.specs.Laws.Parts.{each_append}
 use Rattle.wat_print_module.specs.Laws.Forms.{first_prints}
 
 -- ---- flags
@@ -53,7 +54,7 @@ number_prints = unsigned_prints 32 (lit≤ tt) (lit≤ tt)
 flag_prints : Prints (unsigned_form 32) flag_bits
 unfolding flag_bits
 flag_prints =
-    first_prints begins_integer number_prints (λ n r. refl)
+    first_prints at_integer number_prints (λ n r. refl)
     (only_made (λ _. true) (λ f. f.0) (is_unsigned 32)
     (only_word_in flag_words (λ f. is_unsigned 32 f.0) refl))
 
@@ -69,7 +70,7 @@ joined_printable (m ∷ ns) n f g =
 flags_prints : Prints flags_form symbol_flags
 unfolding symbol_flags flag_list
 flags_prints =
-    whole_where (made_prints (many_prints more flag_prints flag_bits_consumes (search rules)
+    whole_where (made_prints (many_prints at_more flag_prints flag_bits_consumes (search rules)
     (search rules)) (λ ns. fold bit_or 0 ns)) one_number (is_unsigned 32) (λ n h. or_zero_l n)
     (λ n h. rw h refl) (λ ns h. joined_printable ns 0 refl h)
 
@@ -92,7 +93,7 @@ sizes_prints : (w : List ℕ) → is_keyword w ≡ true → bytes_eq w w ≡ tru
     → Prints (sizes_form w) (sizes w)
 unfolding sizes
 sizes_prints w k e =
-    whole_prints (made_prints (filled_prints (second (begins_word w))
+    whole_prints (made_prints (filled_prints (second_word w)
     (group_prints (seq_prints number_prints number_prints (search rules)) w k e) (λ y h. e))
     (λ o. unwrap_or o no_size)) Some (λ v h. refl) (λ v h. h) (λ o h. grind arith)
 
@@ -100,18 +101,18 @@ names_prints : (w : List ℕ) → is_keyword w ≡ true → bytes_eq w w ≡ tru
     → Prints (names_form w) (names_entry w)
 unfolding names_entry
 names_prints w k e =
-    group_prints (many_prints more text_prints (lit≤ tt) (search rules) (search rules)) w k e
+    group_prints (many_prints at_more text_prints (lit≤ tt) (search rules) (search rules)) w k e
 
 lone_prints : Prints lone_form lone_entry
 unfolding lone_entry mem_info_entry
 lone_prints =
-    whole_where (else_prints (begins_group (codes "mem-info"))
+    whole_where (else_prints (at_group (codes "mem-info"))
     (group_prints (made_prints (seq_prints (sizes_prints (codes "memory") refl refl)
     (sizes_prints (codes "table") refl refl) (search rules))
     (λ v. mem_info v.0.0 v.0.1 v.1.0 v.1.1)) (codes "mem-info") refl refl)
-    (else_prints (begins_group (codes "needed"))
+    (else_prints (at_group (codes "needed"))
     (made_prints (names_prints (codes "needed") refl refl) needed)
-    (else_prints (begins_group (codes "runtime-path"))
+    (else_prints (at_group (codes "runtime-path"))
     (made_prints (names_prints (codes "runtime-path") refl refl) runtime_path)
     (made_prints (group_prints text_prints (codes "target-arch") refl refl) target_arch)
     (search rules) (search rules)) (search rules) (search rules)) (search rules) (search rules))
@@ -121,14 +122,14 @@ lone_prints =
 entry_prints : Prints entry_form entry
 unfolding entry
 entry_prints =
-    whole_prints (else_prints begins_export (made_prints export_prints of_export)
-    (else_prints begins_import (made_prints import_prints of_import)
+    whole_prints (else_prints at_export (made_prints export_prints of_export)
+    (else_prints at_import (made_prints import_prints of_import)
     (made_prints lone_prints other) (search rules) (search rules)) (search rules) (search rules))
     entry_parts (λ e h. grind arith) (λ e h. h) (λ v h. grind arith)
 
 entries_prints : Prints entries_form entries
 unfolding entries
-entries_prints = many_prints more entry_prints entry_consumes (search rules) (search rules)
+entries_prints = many_prints at_more entry_prints entry_consumes (search rules) (search rules)
 
 -- ---- the entries of two lists
 
@@ -138,11 +139,7 @@ entries_spelled es fs = flat_map-append entry_form.spell es fs
 
 pub entries_printable : (es fs : List EntryTy)
     → entries_form.printable (es ++ fs) ≡ (entries_form.printable es && entries_form.printable fs)
-entries_printable [] fs = refl
-entries_printable (e ∷ es) fs =
-    ap (λ (b : Bool). entry_form.printable e && b) (entries_printable es fs)
-    ∙ sym (and_assoc (entry_form.printable e) (entries_form.printable es)
-    (entries_form.printable fs))
+entries_printable es fs = each_append entry_form.printable es fs
 
 pub ruleset more_entries = (entries_spelled, entries_printable)
 

@@ -1,18 +1,18 @@
 -- Laws: element segments and their elements are read again.
-use Rattle.std.specs.Prelude.{◌≡◌, ℕ, true, not, List, ◌∷◌, codes, Some, is_none}
+use Rattle.std.specs.Prelude.{◌≡◌, ℕ, true, List, ◌∷◌, codes, Some, is_none}
 use Rattle.std.specs.Str.{bytes_eq}
 use Rattle.std.proofs.Common.{rules, arith, refl, append_assoc, lit≤}
 use Rattle.std.proofs.Math.Bool.{and_assoc}
 use Rattle.wat_lexer.specs.Token.{Tok, Keyword}
 use Rattle.wat_tokens.specs.Index.{number}
 use Rattle.wat_tokens.specs.Parts.{made}
-use Rattle.wat_tokens.specs.Tests.{begins_word, begins_group, begins_integer, more, second}
-use Rattle.wat_types.specs.Reference.{begins_ref, begins_shorthand}
+use Rattle.wat_tokens.specs.Test.{at_group, at_integer, at_more, at_word, second_word}
+use Rattle.wat_types.specs.Reference.{begins_ref, at_ref, at_shorthand}
 use Rattle.wat_types.specs.declared.heap.AbstractHeapType.{AbstractHeapType}
 use Rattle.wat_types.specs.declared.heap.AbstractHeapType.TheVariants as word
 use Rattle.wat_fields.specs.Elem.{passive, declared, elem_of, elem_offset, active_of, in_table}
 use Rattle.wat_fields.specs.Elem.{table_number, in_some_table, declared_segment, passive_segment}
-use Rattle.wat_fields.specs.Elem.{begins_active, active_segment, segment, elem}
+use Rattle.wat_fields.specs.Elem.{active_segment, segment, elem, at_active}
 use Rattle.wat_fields.specs.Item.{written_or_folded, item}
 use Rattle.wat_fields.specs.Laws.Payload.{item_consumes}
 use Rattle.wat_fields.specs.Payload.{indices, exprs, item_list, index_list, typed_elems, payload}
@@ -25,7 +25,7 @@ use Rattle.wat_print.specs.Laws.Form.{seq_prints, made_prints, whole_prints, who
 use Rattle.wat_print.specs.Laws.Form.{only_where_prints, else_prints, many_prints, after_prints}
 use Rattle.wat_print.specs.Laws.Form.{group_prints, option_seen}
 use Rattle.wat_print.specs.Laws.Label.{label_prints}
-use Rattle.wat_print.specs.Laws.Reference.{index_prints, ref_prints}
+use Rattle.wat_print.specs.Laws.Reference.{index_prints, ref_prints, no_short}
 use Rattle.wat_print_instr.specs.Laws.Numbers.{unsigned_prints}
 use Rattle.wat_print_instr.specs.Laws.OperandFront.{short_apart}
 use Rattle.wat_print_module.specs.Data.{offset_form}
@@ -41,13 +41,6 @@ use Rattle.wat_print_module.specs.Laws.Forms.{first_prints}
 
 -- ---- the words of shorthands of reference types
 
-no_func : (t : AbstractHeapType) → not (bytes_eq (short_word t) (codes "func")) ≡ true
-no_func word.Func = refl
-no_func _ = refl
-
-no_declare : (t : AbstractHeapType) → not (bytes_eq (short_word t) (codes "declare")) ≡ true
-no_declare t = rw (short_apart (codes "declare") refl t) refl
-
 no_type : (t : AbstractHeapType) (y : List Tok)
     → offset_form.follows (Keyword (short_word t) ∷ y) ≡ true
 no_type t y =
@@ -59,7 +52,7 @@ no_type t y =
 
 pub short_begins : (t : AbstractHeapType) (y : List Tok)
     → begins_ref (Keyword (short_word t) ∷ y) ≡ true
-unfolding begins_shorthand
+unfolding at_shorthand
 short_begins word.Func y = refl
 short_begins _ y = refl
 
@@ -70,7 +63,7 @@ written_prints : (w : List ℕ) → is_keyword w ≡ true → bytes_eq w w ≡ t
     → Prints (group_form w expression_form) (written_or_folded w)
 unfolding written_or_folded
 written_prints w k e =
-    first_prints (second (begins_word w)) (group_prints expression_prints w k e) (λ v r. e)
+    first_prints (second_word w) (group_prints expression_prints w k e) (λ v r. e)
     folded_only
 
 pub elem_item_prints : Prints elem_item_form item
@@ -79,11 +72,11 @@ elem_item_prints = written_prints (codes "item") refl refl
 
 pub elem_items_prints : Prints elem_items_form item_list
 unfolding item_list
-elem_items_prints = many_prints more elem_item_prints item_consumes (search rules) (search rules)
+elem_items_prints = many_prints at_more elem_item_prints item_consumes (search rules) (search rules)
 
 pub elem_indices_prints : Prints elem_indices_form index_list
 unfolding index_list
-elem_indices_prints = many_prints more index_prints (lit≤ tt) (search rules) (search rules)
+elem_indices_prints = many_prints at_more index_prints (lit≤ tt) (search rules) (search rules)
 
 typed_prints : Unparses typed_elems_form (λ v. exprs v.0 v.1) typed_elems
 unfolding typed_elems
@@ -93,9 +86,9 @@ typed_prints =
 pub payload_prints : Prints payload_form payload
 unfolding payload
 payload_prints =
-    whole_prints (else_prints (begins_word (codes "func"))
+    whole_prints (else_prints (at_word (codes "func"))
     (made_prints (after_prints elem_indices_prints (codes "func") refl refl) indices) typed_prints
-    (search rules) (search (rules, no_func))) payload_parts (λ p h. grind arith) (λ p h. h)
+    (search rules) (search (rules, no_short (codes "func") refl))) payload_parts (λ p h. grind arith) (λ p h. h)
     (λ v h. grind arith)
 
 bare_indices_prints : Unparses bare_indices_form indices (made indices index_list)
@@ -108,12 +101,12 @@ bare_indices_prints =
     }
 
 any_payload_prints : Prints any_payload_form payload_or_indices
-unfolding payload_or_indices begins_shorthand
+unfolding payload_or_indices at_shorthand
 any_payload_prints =
-    whole_prints (else_prints (begins_word (codes "func"))
+    whole_prints (else_prints (at_word (codes "func"))
     (made_prints (after_prints elem_indices_prints (codes "func") refl refl) indices)
-    (else_prints begins_ref typed_prints bare_indices_prints (search (rules, short_begins)) tt)
-    (search rules) (search (rules, no_func))) any_payload_parts (λ p h. grind arith)
+    (else_prints at_ref typed_prints bare_indices_prints (search (rules, short_begins)) tt)
+    (search rules) (search (rules, no_short (codes "func") refl))) any_payload_parts (λ p h. grind arith)
     (λ p h. grind arith) (λ v h. grind arith)
 
 -- ---- segments
@@ -124,21 +117,21 @@ elem_offset_prints = written_prints (codes "offset") refl refl
 
 segment_prints : Prints segment_form segment
 unfolding segment declared_segment active_segment in_table in_some_table table_number
-    passive_segment begins_shorthand
+    passive_segment at_shorthand
 segment_prints =
-    respelled (whole_where (else_prints (begins_word (codes "declare"))
+    respelled (whole_where (else_prints (at_word (codes "declare"))
     (made_prints (after_prints payload_prints (codes "declare") refl refl) (λ p. (declared, p)))
-    (else_prints begins_active (else_prints (begins_group (codes "table"))
+    (else_prints at_active (else_prints (at_group (codes "table"))
     (made_prints (seq_prints (made_prints (group_prints index_prints (codes "table") refl refl)
     (λ i. Some i)) (seq_prints elem_offset_prints payload_prints (search (rules, no_type)))
     (search rules)) active_of)
-    (made_prints (seq_prints (only_where_prints (option_seen begins_integer
+    (made_prints (seq_prints (only_where_prints (option_seen at_integer
     (made_prints (unsigned_prints 32 (lit≤ tt) (lit≤ tt)) number) (search rules))
     (λ n. is_none n))
     (seq_prints elem_offset_prints any_payload_prints (search (rules, no_type)))
     (search rules)) active_of) (search rules) (search rules))
     (made_prints payload_prints (λ p. (passive, p))) (search rules) (search rules))
-    (search rules) (search (rules, no_declare))) segment_parts mode_form.printable
+    (search rules) (search (rules, no_short (codes "declare") refl))) segment_parts mode_form.printable
     (λ s h. grind arith) (λ s h. grind (arith, and_assoc)) (λ v h. grind (arith, and_assoc)))
     mode_form.spell (λ s h. grind (arith, append_assoc))
 

@@ -8,7 +8,7 @@ use Rattle.wat_print.specs.Laws.Form.{after_prints}
 use Rattle.wat_print.specs.Laws.Reference.{index_prints}
 use Rattle.wat_print_module.specs.Export.{export_kind_word, export_kind_form, export_parts}
 use Rattle.wat_print_module.specs.Export.{export_form, export_type_form}
-use Rattle.wat_print_module.specs.Laws.Forms.{named_prints}
+use Rattle.wat_print.specs.Laws.Reference.{named_prints}
 use Rattle.wat_print_module.specs.Laws.Item.{sig_prints}
 use Rattle.wat_print.specs.Laws.Strings.{text_prints}
 

@@ -1,7 +1,7 @@
 -- Laws: the fields of a module are read again.
 use Rattle.std.specs.Prelude.{codes}
 use Rattle.std.proofs.Common.{refl, rules, arith}
-use Rattle.wat_tokens.specs.Tests.{begins_word}
+use Rattle.wat_tokens.specs.Test.{at_word}
 use Rattle.wat_core.specs.Field.{ModuleFieldTy, a_type, a_rec, an_import, a_func, a_table, a_memory}
 use Rattle.wat_core.specs.Field.{a_global, an_export, a_start, an_elem, a_data, a_tag, a_custom}
 use Rattle.wat_core.specs.Field.{start, start_or_later_field, global_or_later_field}
@@ -38,9 +38,9 @@ late_view = pick a_start (pick an_elem (pick a_data a_custom))
 late_inside : Inside late_form late_view start_or_later_field
 unfolding start_or_later_field
 late_inside =
-    else_inside (begins_word (codes "start")) (inside (made_prints start_prints a_start) refl)
-    (else_inside (begins_word (codes "elem")) (inside (made_prints elem_prints an_elem) refl)
-    (else_inside (begins_word (codes "data")) (inside (made_prints data_prints a_data) refl)
+    else_inside (at_word (codes "start")) (inside (made_prints start_prints a_start) refl)
+    (else_inside (at_word (codes "elem")) (inside (made_prints elem_prints an_elem) refl)
+    (else_inside (at_word (codes "data")) (inside (made_prints data_prints a_data) refl)
     (made_prints custom_inside a_custom) (search rules) (search rules)) (search rules)
     (search rules)) (search rules) (search rules)
 
@@ -50,10 +50,10 @@ middle_view = pick a_global (pick an_export (pick a_tag late_view))
 middle_inside : Inside middle_form middle_view global_or_later_field
 unfolding global_or_later_field
 middle_inside =
-    else_inside (begins_word (codes "global"))
+    else_inside (at_word (codes "global"))
     (inside (made_prints global_field_prints a_global) refl)
-    (else_inside (begins_word (codes "export")) (inside (made_prints export_prints an_export) refl)
-    (else_inside (begins_word (codes "tag")) (inside (made_prints tag_prints a_tag) refl)
+    (else_inside (at_word (codes "export")) (inside (made_prints export_prints an_export) refl)
+    (else_inside (at_word (codes "tag")) (inside (made_prints tag_prints a_tag) refl)
     late_inside (search rules) (search rules)) (search rules) (search rules))
     (search rules) (search rules)
 
@@ -63,10 +63,10 @@ early_view = pick a_func (pick a_table (pick a_memory middle_view))
 early_inside : Inside early_form early_view func_or_later_field
 unfolding func_or_later_field
 early_inside =
-    else_inside (begins_word (codes "func")) (inside (made_prints func_prints a_func) refl)
-    (else_inside (begins_word (codes "table"))
+    else_inside (at_word (codes "func")) (inside (made_prints func_prints a_func) refl)
+    (else_inside (at_word (codes "table"))
     (inside (made_prints table_field_prints a_table) refl)
-    (else_inside (begins_word (codes "memory"))
+    (else_inside (at_word (codes "memory"))
     (inside (made_prints memory_field_prints a_memory) refl) middle_inside (search rules)
     (search rules)) (search rules) (search rules)) (search rules) (search rules)
 
@@ -76,9 +76,9 @@ kinds_view = pick a_type (pick a_rec (pick an_import early_view))
 kinds_inside : Inside kinds_form kinds_view module_field
 unfolding module_field
 kinds_inside =
-    else_inside (begins_word (codes "type")) (inside (made_prints type_prints a_type) refl)
-    (else_inside (begins_word (codes "rec")) (inside (made_prints rec_prints a_rec) refl)
-    (else_inside (begins_word (codes "import")) (inside (made_prints imports_prints an_import) refl)
+    else_inside (at_word (codes "type")) (inside (made_prints type_prints a_type) refl)
+    (else_inside (at_word (codes "rec")) (inside (made_prints rec_prints a_rec) refl)
+    (else_inside (at_word (codes "import")) (inside (made_prints imports_prints an_import) refl)
     early_inside (search rules) (search rules)) (search rules) (search rules))
     (search rules) (search rules)
 

@@ -4,7 +4,7 @@ use Rattle.std.specs.Str.{bytes_eq}
 use Rattle.std.proofs.Common.{refl, rules}
 use Rattle.wat_tokens.specs.Groups.{group}
 use Rattle.wat_tokens.specs.Strings.{text}
-use Rattle.wat_links.specs.Export.{begins_inline_export, inline_export}
+use Rattle.wat_links.specs.Export.{inline_export, at_inline_export}
 use Rattle.wat_links.specs.FieldHead.{field_head, head}
 use Rattle.wat_links.specs.Import.{inline_import}
 use Rattle.wat_links.specs.InlineName.{inline_name}
@@ -32,7 +32,7 @@ name_group_prints w k e =
 pub inline_export_prints : Prints inline_export_form inline_export
 unfolding inline_export inline_name
 inline_export_prints =
-    many_prints begins_inline_export (name_group_prints (codes "export") refl refl)
+    many_prints at_inline_export (name_group_prints (codes "export") refl refl)
     inline_name_consumes (λ n y. refl) (λ n y. refl)
 
 pub inline_import_prints : Prints inline_import_form inline_import

@@ -2,7 +2,7 @@
 use Rattle.std.specs.Prelude.{◌≡◌, ℕ, Bool, false, List, ◌∷◌, codes}
 use Rattle.std.specs.Str.{bytes_eq}
 use Rattle.std.proofs.Common.{refl}
-use Rattle.wat_lexer.specs.Token.{Tok, LParen, RParen, Keyword, String}
+use Rattle.wat_lexer.specs.Token.{Tok, LParen, Keyword}
 use Rattle.wat_links.specs.Export.{begins_inline_export}
 use Rattle.wat_links.specs.Import.{begins_inline_import}
 
@@ -11,10 +11,8 @@ abbrev pub OnGroup : (List Tok → Bool) → List ℕ → Type 0
 OnGroup test w = (y : List Tok) → test (LParen ∷ Keyword w ∷ y) ≡ false
 
 pub no_export : (k : List ℕ) → bytes_eq k (codes "export") ≡ false → OnGroup begins_inline_export k
-no_export k e (String s ∷ RParen ∷ y) = e
-no_export k e _ = refl
+no_export k e y = rw e refl
 
 pub no_import_word : (k : List ℕ) → bytes_eq k (codes "import") ≡ false
     → OnGroup begins_inline_import k
-no_import_word k e (String s ∷ String t ∷ RParen ∷ y) = e
-no_import_word k e _ = refl
+no_import_word k e y = rw e refl

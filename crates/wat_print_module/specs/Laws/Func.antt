@@ -3,7 +3,7 @@ use Rattle.std.specs.Prelude.{◌≡◌, true, not, List, [], ◌∷◌, ◌++�
 use Rattle.std.proofs.Common.{refl, rules, arith}
 use Rattle.wat_lexer.specs.Token.{Tok}
 use Rattle.wat_tokens.specs.Parts.{seq}
-use Rattle.wat_links.specs.Import.{begins_inline_import}
+use Rattle.wat_links.specs.Import.{begins_inline_import, at_inline_import}
 use Rattle.wat_links.specs.Item.{func_use}
 use Rattle.wat_expr.specs.Expression.{Expr}
 use Rattle.wat_expr.specs.ExpressionProduction.{expression}
@@ -55,7 +55,7 @@ inline_func_prints =
 defined_func_prints : Prints defined_func_form func_defined
 unfolding func_defined func_import func_inline
 defined_func_prints =
-    whole_prints (else_prints begins_inline_import
+    whole_prints (else_prints at_inline_import
     (made_prints (seq_prints inline_import_prints exact_prints (search rules))
     (λ v. (v.1.0, imported v.0 v.1.1)))
     (made_prints inline_func_prints (λ v. (v.0, inline v.1.0 v.1.1))) (λ m n y. refl)

@@ -4,7 +4,7 @@ use Rattle.std.specs.Str.{bytes_eq}
 use Rattle.std.proofs.Common.{refl, rules, arith}
 use Rattle.wat_types.specs.Value.{ValTy}
 use Rattle.wat_types.specs.declared.heap.AbstractHeapType.{AbstractHeapType}
-use Rattle.wat_links.specs.Import.{begins_inline_import}
+use Rattle.wat_links.specs.Import.{at_inline_import}
 use Rattle.wat_fields.specs.Global.{imported, inline, global_of, global_defined, global}
 use Rattle.wat_print.specs.Form.{any}
 use Rattle.wat_print.specs.Prints.{Prints}
@@ -48,7 +48,7 @@ behind_type =
 defined_global_prints : Prints defined_global_form global_defined
 unfolding global_defined
 defined_global_prints =
-    whole_prints (else_prints begins_inline_import
+    whole_prints (else_prints at_inline_import
     (made_prints (seq_prints inline_import_prints global_prints (search rules))
     (λ v. (v.1, imported v.0)))
     (made_prints (seq_prints global_prints expression_prints behind_type) (λ v. (v.0, inline v.1)))

@@ -3,14 +3,15 @@ use Rattle.std.specs.Prelude.{◌≡◌, true, List, [], ◌∷◌, ◌++◌, co
 use Rattle.std.specs.Str.{bytes_eq}
 use Rattle.std.proofs.Common.{refl, rules, arith}
 use Rattle.std.proofs.lemmas.Bool.{and_parts}
-use Rattle.wat_lexer.specs.Token.{Tok, String}
+use Rattle.wat_lexer.specs.Token.{Tok}
 use Rattle.wat_tokens.specs.Parts.{made_where, seq}
 use Rattle.wat_tokens.specs.Strings.{text}
-use Rattle.wat_tokens.specs.Tests.{ends, begins_lparen}
+use Rattle.wat_tokens.specs.Tests.{ends}
+use Rattle.wat_tokens.specs.Test.{at_lparen}
 use Rattle.wat_links.specs.Forms.{import_items, imports}
-use Rattle.wat_links.specs.Import.{single, group1, group2, imports_of, item_follows, shared_sig}
+use Rattle.wat_links.specs.Import.{single, group1, group2, imports_of, shared_sig}
 use Rattle.wat_links.specs.Import.{typed_list, named_list, import_choice, typed_items, named_items}
-use Rattle.wat_links.specs.Import.{single_item, typed}
+use Rattle.wat_links.specs.Import.{single_item, typed, at_item, at_typed}
 use Rattle.wat_links.specs.ImportItem.{sig_group, typed_item, named_item}
 use Rattle.wat_links.specs.Item.{item_sig, SigTy}
 use Rattle.wat_links.specs.ItemForms.{ItemsSpells}
@@ -37,7 +38,7 @@ single_prints = seq_prints text_prints (paren_prints sig_prints) (search rules)
 typed_prints : Prints typed_items_form typed_list
 unfolding typed_list typed_item
 typed_prints =
-    many_prints item_follows (group_prints single_prints (codes "item") refl refl)
+    many_prints at_item (group_prints single_prints (codes "item") refl refl)
     typed_item_consumes (search rules) (search rules)
 
 shared_prints : Prints shared_form (made_where (λ s. is_none s.label.id) (λ s. s) item_sig)
@@ -55,15 +56,14 @@ shared_prints =
 sharing_prints : Prints sharing_form (seq named_list shared_sig)
 unfolding named_list named_item shared_sig
 sharing_prints =
-    seq_prints (many_prints item_follows (name_group_prints (codes "item") refl refl)
+    seq_prints (many_prints at_item (name_group_prints (codes "item") refl refl)
     named_item_consumes (λ n y. refl) (λ n y. refl)) (paren_prints shared_prints) (search rules)
 
 -- ---- the three forms of imports
 
 -- no signature begins with `item`
 no_item : (k : List ℕ) → bytes_eq k (codes "item") ≡ false → OnGroup typed k
-no_item k e (String s ∷ y) = rw e refl
-no_item k e _ = refl
+no_item k e y = rw e refl
 
 typed_begin : (xs : List (List ℕ × SigTy)) (r : List Tok) → typed_items_form.ready xs ≡ true
     → ends r ≡ true → typed (typed_items_form.spell xs ++ r) ≡ true
@@ -73,8 +73,8 @@ typed_begin (x ∷ xs) r h e = refl
 items_prints : Prints items_form import_items
 unfolding import_items import_choice typed_items named_items single_item
 items_prints =
-    restated_prints (whole_prints (told_prints ends typed (made_prints typed_prints group1)
-    (else_prints begins_lparen (made_prints sharing_prints (λ v. group2 v.1 v.0))
+    restated_prints (whole_prints (told_prints ends at_typed (made_prints typed_prints group1)
+    (else_prints at_lparen (made_prints sharing_prints (λ v. group2 v.1 v.0))
     (made_prints single_prints (λ v. single v.0 v.1)) (λ n y. refl, search rules) (search rules))
     typed_begin ((λ n y. refl, search (rules, no_item)), search rules)) items_parts
     (λ v h. grind arith) (λ v h. h) (λ v h. grind arith)) ItemsSpells items_to items_from

@@ -3,7 +3,7 @@ use Rattle.std.specs.Prelude.{◌≡◌, ℕ, true, false, List, codes}
 use Rattle.std.specs.Str.{bytes_eq}
 use Rattle.std.proofs.Common.{refl, rules, arith}
 use Rattle.wat_tokens.specs.Production.{Production}
-use Rattle.wat_tokens.specs.Tests.{begins_word, second}
+use Rattle.wat_tokens.specs.Test.{at_word, second_word}
 use Rattle.wat_links.specs.Item.{ItemKindTy, table, memory, global, tag, sig_of, exact_use}
 use Rattle.wat_links.specs.Item.{func_kind_of, func_kind, item_of, global_or_tag, item_sig}
 use Rattle.wat_print.specs.Form.{any, Form}
@@ -22,7 +22,7 @@ use Rattle.wat_print_module.specs.Item.{printable_sig, sig_form}
 pub exact_prints : Prints exact_form exact_use
 unfolding exact_use
 exact_prints =
-    whole_prints (else_prints (second (begins_word (codes "exact")))
+    whole_prints (else_prints (second_word (codes "exact"))
     (made_prints (group_prints use_prints (codes "exact") refl refl) (λ u. (u, true)))
     (made_prints use_prints (λ u. (u, false))) (search rules) (search rules)) exact_parts
     (λ u h. grind arith) (λ u h. h) (λ v h. grind arith)
@@ -37,13 +37,13 @@ item_prints w i e p f =
 pub sig_prints : Prints sig_form item_sig
 unfolding item_sig func_kind global_or_tag
 sig_prints =
-    respelled (whole_where (else_prints (begins_word (codes "func"))
+    respelled (whole_where (else_prints (at_word (codes "func"))
     (item_prints (codes "func") refl refl (made_prints exact_prints func_kind_of) (search rules))
-    (else_prints (begins_word (codes "table"))
+    (else_prints (at_word (codes "table"))
     (item_prints (codes "table") refl refl (made_prints table_prints table) (search rules))
-    (else_prints (begins_word (codes "memory"))
+    (else_prints (at_word (codes "memory"))
     (item_prints (codes "memory") refl refl (made_prints memory_prints memory) (search rules))
-    (else_prints (begins_word (codes "global"))
+    (else_prints (at_word (codes "global"))
     (item_prints (codes "global") refl refl (made_prints global_prints global) (search rules))
     (item_prints (codes "tag") refl refl (made_prints use_prints tag) (search rules))
     (search rules) (search rules)) (search rules) (search rules)) (search rules) (search rules))

@@ -6,7 +6,7 @@ use Rattle.wat_tokens.specs.Joined.{all_of}
 use Rattle.wat_types.specs.Laws.Value.{val_type_consumes}
 use Rattle.wat_fields.specs.Laws.Local.{local_group_consumes}
 use Rattle.wat_fields.specs.Local.{LocalTy, local_of, labelled_local, plain_locals, listed_locals}
-use Rattle.wat_fields.specs.Local.{local_parser, local_follows}
+use Rattle.wat_fields.specs.Local.{local_parser, at_local}
 use Rattle.wat_fields.specs.Locals.{locals}
 use Rattle.wat_print.specs.Form.{paren_form}
 use Rattle.wat_print.specs.Label.{by_itself, in_groups, listed_form}
@@ -57,7 +57,7 @@ alone_ready (l ∷ ls) h =
 pub locals_prints : Prints locals_form locals
 unfolding locals
 locals_prints =
-    respelled (whole_where (made_prints (many_prints local_follows
+    respelled (whole_where (made_prints (many_prints at_local
     (paren_prints local_parser_prints) local_group_consumes (search rules) (search rules))
     (λ gs. all_of gs)) (map by_itself) (each listed_local_form.printable) (λ ls h. (alone ls).0)
     alone_ready locals_listed.2) (flat_map local_form.spell) (λ ls h. (alone ls).1)

@@ -3,9 +3,9 @@ use Rattle.std.specs.Prelude.{◌≡◌, true, not, List, [], ◌∷◌, codes}
 use Rattle.std.proofs.Common.{rules, arith, refl}
 use Rattle.wat_lexer.specs.Token.{Tok, LParen}
 use Rattle.wat_tokens.specs.Tests.{begins_integer, begins_lparen}
-use Rattle.wat_links.specs.Import.{begins_inline_import}
+use Rattle.wat_links.specs.Import.{at_inline_import}
 use Rattle.wat_fields.specs.Memory.{imported, normal, inline, memory_of, inline_memory}
-use Rattle.wat_fields.specs.Memory.{begins_inline_data, memory_kind, memory}
+use Rattle.wat_fields.specs.Memory.{memory_kind, memory, at_inline_data}
 use Rattle.wat_print.specs.Prints.{Prints, Unparses}
 use Rattle.wat_print.specs.Laws.Form.{seq_prints, behind_prints, made_prints, whole_prints}
 use Rattle.wat_print.specs.Laws.Form.{else_prints, after_prints, group_prints}
@@ -31,10 +31,10 @@ number_no_paren (_ ∷ y) e = refl
 memory_kind_prints : Prints memory_kind_form memory_kind
 unfolding memory_kind
 memory_kind_prints =
-    whole_prints (else_prints begins_inline_import
+    whole_prints (else_prints at_inline_import
     (made_prints (seq_prints inline_import_prints memory_prints (search rules))
     (λ v. imported v.0 v.1))
-    (else_prints begins_inline_data inline_memory_prints (made_prints memory_prints normal)
+    (else_prints at_inline_data inline_memory_prints (made_prints memory_prints normal)
     (search rules) (search (rules, number_no_paren))) (λ m n y. refl)
     (search (rules, no_import_word))) memory_kind_parts (λ k h. grind arith) (λ k h. h)
     (λ v h. grind arith)

@@ -5,7 +5,7 @@ use Rattle.std.proofs.Common.{refl, rules, arith, subst, sym}
 use Rattle.std.proofs.lemmas.Bool.{and_right}
 use Rattle.wat_lexer.specs.Token.{Tok}
 use Rattle.wat_tokens.specs.Groups.{paren}
-use Rattle.wat_tokens.specs.Tests.{begins_word, more}
+use Rattle.wat_tokens.specs.Test.{at_more, at_word}
 use Rattle.wat_types.specs.Label.{label}
 use Rattle.wat_core.specs.Field.{ModuleFieldTy}
 use Rattle.wat_core.specs.FieldGroup.{field_group}
@@ -45,12 +45,12 @@ field_behind =
 
 fields_prints : Prints fields_form fields
 unfolding fields
-fields_prints = many_prints more field_prints field_group_consumes (search rules) field_behind
+fields_prints = many_prints at_more field_prints field_group_consumes (search rules) field_behind
 
 kind_prints : Prints module_kind_form module_kind
 unfolding module_kind pieces
 kind_prints =
-    whole_prints (else_prints (begins_word (codes "binary"))
+    whole_prints (else_prints (at_word (codes "binary"))
     (made_prints (after_prints pieces_prints (codes "binary") refl refl) binary)
     (made_prints fields_prints text) (search rules) (search rules)) kind_parts
     (λ k h. grind arith) (λ k h. h) (λ v h. grind arith)

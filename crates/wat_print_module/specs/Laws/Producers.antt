@@ -13,6 +13,7 @@ use Rattle.wat_tokens.specs.Parts.{made}
 use Rattle.wat_tokens.specs.Tests.{more, look_up}
 use Rattle.wat_tokens.specs.Views.{no_items}
 use Rattle.wat_tokens.specs.Laws.Production.{by_test}
+use Rattle.wat_tokens.specs.Test.{at_more}
 use Rattle.wat_links.specs.ProducerEntry.{field_words, Versioned, ProducerTy, field_word}
 use Rattle.wat_links.specs.ProducerEntry.{producer_entry}
 use Rattle.wat_links.specs.Producers.{word_of, same_field, producer_entries, field_entries}
@@ -31,7 +32,7 @@ use Rattle.wat_print_module.specs.Producers.{ProducedTy, versioned_form, produce
 use Rattle.wat_print_module.specs.Producers.{fields_behind, are_in_turn, all_fields_form}
 use Rattle.wat_print_module.specs.Producers.{printable_producers, fields_form, producers_form}
 use Rattle.wat_print.specs.Laws.Annotation.{annotated}
-use Rattle.wat_print_module.specs.Laws.Forms.{named_prints}
+use Rattle.wat_print.specs.Laws.Reference.{named_prints}
 
 -- ---- the words of fields
 
@@ -77,7 +78,7 @@ entries_form = many_form more entry_form
 entries_prints : Prints entries_form producer_entries
 unfolding producer_entries
 entries_prints =
-    many_prints more entry_prints producer_entry_consumes (search rules) (search rules)
+    many_prints at_more entry_prints producer_entry_consumes (search rules) (search rules)
 
 abbrev entries_of : ProducerField → List Versioned → List ProducerTy
 entries_of k xs = map (λ x. (k, x)) xs

@@ -15,11 +15,12 @@ use Rattle.wat_tokens.specs.Groups.{group}
 use Rattle.wat_tokens.specs.Index.{Idx, same_index}
 use Rattle.wat_tokens.specs.Parts.{seq, made, flag, opt, where_else}
 use Rattle.wat_tokens.specs.Production.{Production}
-use Rattle.wat_tokens.specs.Tests.{begins_word, begins_lparen, begins_integer, more, ends, word_in}
+use Rattle.wat_tokens.specs.Tests.{begins_word, begins_lparen, begins_integer, more, ends}
 use Rattle.wat_tokens.specs.Laws.Index.{same_index_decides}
-use Rattle.wat_types.specs.Heap.{HeapTy, concrete, exact, abstract_, abstract_word, abstract_words}
+use Rattle.wat_tokens.specs.Test.{at_lparen, Test, run, at_more}
+use Rattle.wat_types.specs.Heap.{HeapTy, concrete, exact, abstract_, abstract_word}
 use Rattle.wat_types.specs.Limits.{is_64, table_type_of, table_type}
-use Rattle.wat_types.specs.Reference.{RefTy, ref_type, begins_ref, begins_shorthand}
+use Rattle.wat_types.specs.Reference.{RefTy, ref_type, begins_ref, at_shorthand}
 use Rattle.wat_types.specs.declared.heap.AbstractHeapType.{AbstractHeapType}
 use Rattle.wat_instr.specs.Instruction.{Instr}
 use Rattle.wat_expr.specs.Expression.{Expr}
@@ -29,8 +30,9 @@ use Rattle.wat_expr.specs.Progress.{Fits}
 use Rattle.wat_fields.specs.Payload.{PayloadTy, indices, exprs, ref_func_of, by_index, by_item}
 use Rattle.wat_fields.specs.Payload.{of_type, item_list, listed, is_funcref}
 use Rattle.wat_fields.specs.Table.{TableKindTy, imported, normal, inline, table_of}
-use Rattle.wat_fields.specs.Table.{begins_inline_elems, begins_normal, inline_of, inline_table}
-use Rattle.wat_fields.specs.Table.{normal_table, imported_table, table_kind, table}
+use Rattle.wat_fields.specs.Table.{begins_inline_elems, inline_of, inline_table}
+use Rattle.wat_fields.specs.Table.{normal_table, imported_table, table_kind, table, at_inline_elems}
+use Rattle.wat_fields.specs.Table.{at_normal}
 use Rattle.wat_print.specs.Form.{any, Form, pick, else_form}
 use Rattle.wat_print.specs.Index.{printable_index}
 use Rattle.wat_print.specs.Layout.{Writes}
@@ -44,7 +46,7 @@ use Rattle.wat_print.specs.Laws.Form.{seq_prints, behind_prints, made_prints, wh
 use Rattle.wat_print.specs.Laws.Form.{whole_where, only_where_prints, told_prints, else_prints}
 use Rattle.wat_print.specs.Laws.Form.{flag_prints, after_prints, group_prints, prints_only}
 use Rattle.wat_print.specs.Laws.Limits.{width_prints, limits_prints, table_prints}
-use Rattle.wat_print.specs.Laws.Reference.{ref_prints}
+use Rattle.wat_print.specs.Laws.Reference.{ref_prints, abstract_reads, no_short}
 use Rattle.wat_print_instr.specs.ExpressionForm.{step_of, spell_step, printable_step, steps_from}
 use Rattle.wat_print_instr.specs.ExpressionForm.{spell_expression, printable_expression}
 use Rattle.wat_print_instr.specs.InstructionForm.{passes}
@@ -64,12 +66,11 @@ use Rattle.wat_print_module.specs.Laws.Expression.{expression_prints}
 use Rattle.wat_print_module.specs.Laws.FieldHead.{inline_import_prints, head_prints}
 use Rattle.wat_print_module.specs.Laws.Folded.{Steps}
 use Rattle.wat_print_module.specs.Laws.Fronts.{no_export}
-use Rattle.wat_types.specs.declared.heap.AbstractHeapType.TheVariants as word
 
 module _ {A B C : Type 0} {form : Form A} {other : Form B} {view : A → C} {also : B → C}
-    {g h : Production C} (test : List Tok → Bool) (ok : A → Bool) (p : Unparses form view g)
+    {g h : Production C} (test : Test) (ok : A → Bool) (p : Unparses form view g)
     (q : Unparses other also h)
-    (found : (a : A) (c r : List Tok) → test (c ++ r) ≡ true → g.spells (view a) c r
+    (found : (a : A) (c r : List Tok) → run test (c ++ r) ≡ true → g.spells (view a) c r
     → ok a ≡ true)
   where
     tested_only : (w : C) (c r : List Tok) → each is_given c ≡ true
@@ -84,9 +85,9 @@ module _ {A B C : Type 0} {form : Form A} {other : Form B} {view : A → C} {als
 
     -- if the test passes, only values that pass `ok` are read
     pub tested_prints : ((a : A) (r : List Tok) → ok a && form.ready a ≡ true
-        → test (form.spell a ++ r) ≡ true)
-        → other.Fronts any (λ t. not (test t))
-        → Unparses (else_form test (where_form ok form) other) (pick view also)
+        → run test (form.spell a ++ r) ≡ true)
+        → other.Fronts any (λ t. not (run test t))
+        → Unparses (else_form (λ t. run test t) (where_form ok form) other) (pick view also)
         (where_else test g h)
     tested_prints m f =
         let t = told_prints any test (only_where_prints p ok) q (λ a r k e. m a r k) f in
@@ -94,14 +95,10 @@ module _ {A B C : Type 0} {form : Form A} {other : Form B} {view : A → C} {als
 
 -- ---- types that are the same
 
-word_back : (t : AbstractHeapType)
-    → word_in abstract_words (Keyword (abstract_word t)) ≡ Some t
-word_back t = grind arith
-
 word_decides : (t u : AbstractHeapType)
     → Decides (bytes_eq (abstract_word t) (abstract_word u)) (t ≡ u)
 word_decides t u =
-    Decides-like (bytes_eq (abstract_word t) (abstract_word u)) (λ e. cc (word_back t, word_back u))
+    Decides-like (bytes_eq (abstract_word t) (abstract_word u)) (λ e. cc (abstract_reads t, abstract_reads u))
     (ap abstract_word) (bytes_eq-Decides (abstract_word t) (abstract_word u))
 
 heap_decides : (h k : HeapTy) → Decides (same_heap h k) (h ≡ k)
@@ -139,7 +136,7 @@ items_found [] c r t ([], s, k, f) = let m : begins_lparen r ≡ true = rw (s.0)
 listed_prints : Unparses listed_form (pick by_item by_index) listed
 unfolding listed
 listed_prints =
-    tested_prints begins_lparen some_items (made_prints elem_items_prints by_item)
+    tested_prints at_lparen some_items (made_prints elem_items_prints by_item)
     (made_prints elem_indices_prints by_index) items_found items_begin (search rules)
 
 -- the elements are printable as the elements of a table, and are read as the same elements
@@ -178,12 +175,9 @@ items_written t (e ∷ es) a b w = w
 -- ---- inline elements
 
 -- no shorthand is `shared`, `i64` or `i32`
-short_other : (t : AbstractHeapType)
-    → (not (bytes_eq (short_word t) (codes "shared")) ≡ true)
-    × (not (bytes_eq (short_word t) (codes "i64"))
-    && not (bytes_eq (short_word t) (codes "i32")) ≡ true)
-short_other word.Func = (refl, refl)
-short_other _ = (refl, refl)
+short_width : (t : AbstractHeapType) → not (bytes_eq (short_word t) (codes "i64"))
+    && not (bytes_eq (short_word t) (codes "i32")) ≡ true
+short_width t = rw (no_short (codes "i64") refl t, no_short (codes "i32") refl t) refl
 
 elems_prints : Unparses elems_form (λ v. (v.0, pick by_item by_index v.1))
     (seq ref_type (group (codes "elem") listed))
@@ -197,18 +191,18 @@ inline_prints : Unparses inline_table_form inline_view inline_table
 unfolding inline_table
 inline_prints =
     made_prints (seq_prints (flag_prints (codes "shared") refl refl)
-    (seq_prints width_prints elems_prints (λ y e. refl, (tt, λ t y e. (short_other t).1)))
-    ((λ y e. refl, λ y e. refl), (λ y e. refl, (tt, λ t y e. (short_other t).0)))) inline_of
+    (seq_prints width_prints elems_prints (λ y e. refl, (tt, λ t y e. short_width t)))
+    ((λ y e. refl, λ y e. refl), (λ y e. refl, (tt, λ t y e. no_short (codes "shared") refl t)))) inline_of
 
 elems_begin : (v : RefTy × (List Expr ⊎ List Idx)) (r : List Tok) → elems_form.ready v ≡ true
     → begins_ref (elems_form.spell v ++ r) ≡ true
-unfolding begins_shorthand
+unfolding at_shorthand
 elems_begin v r h =
     elems_prints.front any begins_ref (λ y e. refl, (tt, λ t y e. (short_begins t y))) v r h refl tt
 
 inline_begins : (v : InlineTree) (r : List Tok) → apart v && inline_table_form.ready v ≡ true
     → begins_inline_elems (inline_table_form.spell v ++ r) ≡ true
-unfolding begins_shorthand
+unfolding at_shorthand
 inline_begins (true, (true, v)) r h = absurd cc
 inline_begins (false, (false, v)) r h = rw (elems_begin v r h) refl
 inline_begins (_, (_, v)) r h = rw (elems_begin v r h) refl
@@ -231,7 +225,7 @@ wide_is b d x f (inr s) = let e = s.1.3 in absurd cc
 
 inline_found : (v : InlineTree) (c r : List Tok) → begins_inline_elems (c ++ r) ≡ true
     → inline_table.spells (inline_view v) c r → apart v ≡ true
-unfolding inline_table begins_shorthand
+unfolding inline_table at_shorthand
 inline_found (true, (true, v)) c r t (w, s, k, e) =
     let a : w.0 ≡ true = cc in
     let b : w.1.0 ≡ true = cc in
@@ -245,7 +239,7 @@ inline_found (_, (_, v)) c r t s = refl
 -- ---- tables with a table type
 
 type_prints : Prints type_form table_type
-unfolding table_type begins_shorthand
+unfolding table_type at_shorthand
 type_prints =
     whole_prints (made_prints (behind_prints no_ref (flag_prints (codes "shared") refl refl)
     (seq_prints limits_prints ref_prints (search rules)) (search rules) (search rules))
@@ -283,14 +277,14 @@ items_some p _ t r f l n = refl
 
 initial_here : (o : Option Expr) (r : List Tok) → if_some printable_initial o ≡ true
     → ends_expression r ≡ true
-    → (opt more expression).spells o (spell_option spell_expression o) r
+    → (opt at_more expression).spells o (spell_option spell_expression o) r
 initial_here (Some e) r h k =
     let a = and_parts (some_items e.instrs) (printable_expression e) h in
     (instrs_more e.instrs e.hints r a.0 a.1, expression_prints.here e r a.1 k)
 initial_here None r h k = (refl, rw ((and_parts (ends r) _ k).0) refl)
 
 initial_only : (o : Option Expr) (c r : List Tok) → each is_given c ≡ true
-    → (opt more expression).spells o c r → if_some printable_initial o ≡ true
+    → (opt at_more expression).spells o c r → if_some printable_initial o ≡ true
 unfolding expression
 initial_only (Some e) c r a s =
     let x = s.1 in
@@ -307,7 +301,7 @@ initial_nests : (o : Option Expr) → if_some printable_initial o ≡ true
 initial_nests (Some e) h = expression_prints.nests e (and_parts (some_items e.instrs) _ h).1
 initial_nests None h = nothing
 
-initial_prints : Prints initial_form (opt more expression)
+initial_prints : Prints initial_form (opt at_more expression)
 initial_prints =
     plain_prints (spell_option spell_expression) initial_nests initial_here
     (record { holds = initial_only })
@@ -350,14 +344,14 @@ kind_fits : (v : KindTree)
 kind_fits v h = grind (arith, elements_fit)
 
 integer_no_ref : (y : List Tok) → begins_integer y ≡ true → no_ref y ≡ true
-unfolding begins_shorthand
+unfolding at_shorthand
 integer_no_ref y e = grind arith
 
 table_kind_prints : Prints table_kind_form table_kind
-unfolding table_kind begins_shorthand
+unfolding table_kind at_shorthand
 table_kind_prints =
-    whole_where (tested_prints begins_inline_elems apart inline_prints
-    (else_prints begins_normal normal_prints imported_prints (search rules) (search rules))
+    whole_where (tested_prints at_inline_elems apart inline_prints
+    (else_prints at_normal normal_prints imported_prints (search rules) (search rules))
     inline_found inline_begins (search (rules, integer_no_ref))) table_kind_parts
     printable_table_kind kind_is kind_ready kind_fits
 

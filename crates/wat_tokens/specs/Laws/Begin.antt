@@ -5,21 +5,21 @@ use Rattle.wat_lexer.specs.Token.{Tok, Keyword}
 use Rattle.wat_tokens.specs.Tests.{as_keyword, word_in, look_up}
 use Rattle.wat_tokens.specs.Laws.Production.{some_is}
 use Rattle.wat_tokens.specs.PartSpells.{one_reads, with_rest}
-use Rattle.wat_tokens.specs.Begin.{begins_one_of}
+use Rattle.wat_tokens.specs.Test.{run, at_listed}
 
 -- ---- by the next word
 
 module _ {A : Type 0} (table : List (List ℕ × A)) where
   pub begins_table : (t : List Tok) (w : List ℕ) (r : List Tok)
       → one_reads as_keyword t ≡ Some (w, r)
-      → begins_one_of (word_in table) t ≡ is_some (look_up table w)
+      → run (at_listed table) t ≡ is_some (look_up table w)
   begins_table [] w r e = absurd cc
   begins_table (Keyword k ∷ t) w r e =
       ap (λ (u : List ℕ × List Tok). is_some (look_up table u.0)) (some_is (k, t) (w, r) e)
   begins_table (_ ∷ t) w r e = absurd cc
 
   pub begins_no_table : (t : List Tok) → one_reads as_keyword t ≡ None
-      → begins_one_of (word_in table) t ≡ false
+      → run (at_listed table) t ≡ false
   begins_no_table [] e = refl
   begins_no_table (Keyword k ∷ t) e = absurd cc
   begins_no_table (_ ∷ t) e = refl

@@ -1,9 +1,10 @@
 -- Laws: consecutive groups of parts, as the list of all their parts.
-use Rattle.std.specs.Prelude.{◌≡◌, ◌≤◌, Bool, List, [], ◌∷◌, ◌++◌, Some, None, refl}
+use Rattle.std.specs.Prelude.{◌≡◌, ◌≤◌, List, [], ◌∷◌, ◌++◌, Some, None, refl}
 use Rattle.std.proofs.Common.{ap, sym, ◌∙◌, append_assoc}
 use Rattle.std.proofs.lemmas.List.{append-nil}
 use Rattle.wat_lexer.specs.Token.{Tok}
 use Rattle.wat_tokens.specs.Production.{Production, Read, bind, some_of, option_of}
+use Rattle.wat_tokens.specs.Test.{Test, run}
 use Rattle.wat_tokens.specs.Adding.{add_all}
 use Rattle.wat_tokens.specs.Joined.{all_of, join, joined_behind, joined}
 use Rattle.wat_tokens.specs.ManySpells.{many_reads}
@@ -21,7 +22,7 @@ module _ {A : Type 0} where
   join_all None = refl
 
 -- appended to the empty list, the parts are what `joined` reads
-pub joined_reads : {A : Type 0} (follows : List Tok → Bool) (g : Production (List A))
+pub joined_reads : {A : Type 0} (follows : Test) (g : Production (List A))
     (consumes : 1 ≤ g.least) (t : List Tok)
-    → joined_behind [] (many_reads follows g t) ≡ (joined follows g consumes).reads t
-joined_reads follows g consumes t = join_all (many_reads follows g t)
+    → joined_behind [] (many_reads (λ r. run follows r) g t) ≡ (joined follows g consumes).reads t
+joined_reads follows g consumes t = join_all (many_reads (λ r. run follows r) g t)

@@ -1,4 +1,4 @@
-use Rattle.wat_core.proofs.IndependentOfRest.Modules.{any_rest}
+use Rattle.wat_core.proofs.AnyRest.{any_rest}
 use Rattle.wat_core.proofs.Ends.{spelled_ends}
 use Rattle.wat_core.proofs.laws.any_rest.Goals as goal
 

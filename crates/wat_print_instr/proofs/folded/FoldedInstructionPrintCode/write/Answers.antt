@@ -1,5 +1,5 @@
 use Rattle.std.proofs.lemmas.Result.{on_ok_weaker}
-use Rattle.std.specs.Prelude.{false, map}
+use Rattle.std.specs.Prelude.{map}
 use Rattle.std.proofs.Common.{rules, sym, ◌∙◌}
 use Rattle.wat_expr.specs.Expression.{expression_view, hint_view}
 use Rattle.wat_instr.specs.Instruction.{instruction_view}

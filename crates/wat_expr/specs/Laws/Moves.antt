@@ -1,20 +1,19 @@
--- Expressions and folded instructions are independent of the rest.
-use Rattle.std.proofs.Common.{◌≡◌, true, List, [], ◌∷◌, ◌++◌, codes, refl, ap, sym, ◌∙◌, append_assoc, subst}
+-- Laws: tokens that spell an expression, or a folded instruction, before one rest spell it before each alike rest.
+use Rattle.std.specs.Prelude.{◌≡◌, true, List, [], ◌∷◌, ◌++◌, codes, refl}
+use Rattle.std.proofs.Common.{ap, sym, ◌∙◌, append_assoc, subst}
 use Rattle.std.proofs.lemmas.List.{append_cancel_right}
 use Rattle.wat_tokens.specs.Token.{Tok, LParen, RParen, String}
-use Rattle.wat_instr.specs.Instruction.{Instr}
+use Rattle.wat_tokens.specs.Asks.{everything, Alike}
+use Rattle.wat_tokens.specs.Laws.Moves.{all_asked}
+use Rattle.wat_tokens.specs.Test.{at_ends}
+use Rattle.wat_instr.specs.Instruction.{Instr, instruction}
 use Rattle.wat_expr.specs.Items.{reads, keyword, hint_name, Items, Nil, Plain, Folded, Block, IfThen, IfElse, Hinted, lists}
 use Rattle.wat_expr.specs.Expression.{Expr, expression_spells}
-use Rattle.wat_expr.specs.ExpressionProduction.{expression}
 use Rattle.wat_expr.specs.Folded.{Groups, NoGroup, Group, groups, folded_spells}
-use Rattle.wat_expr.specs.FoldedProduction.{folded_instruction}
-use Rattle.wat_core.proofs.IndependentOfRest.Rests.{Alike, alike_behind, ends_test}
-use Rattle.wat_core.proofs.IndependentOfRest.Productions.{IndependentOfRest}
-use Rattle.wat_core.proofs.IndependentOfRest.Operands.{instruction_independent}
 
--- ---- one prefix, before t and before u
+-- ---- the same tokens before t and before u
 
--- the tokens with the prefix before u, if ts has the prefix before t
+-- ts is `front` and then t; `new` is `front` and then u
 record Beside (t u ts : List Tok) : Type 0 where
   front : List Tok
   new : List Tok
@@ -24,9 +23,9 @@ record Beside (t u ts : List Tok) : Type 0 where
 abbrev at_once : (t u ts : List Tok) → ts ≡ t → Beside t u ts
 at_once t u ts e = record { front = []; new = u; old_is = e; new_is = refl }
 
--- the tokens c before both
-abbrev with_prefix : {t u m : List Tok} (ts c : List Tok) → ts ≡ c ++ m → Beside t u m → Beside t u ts
-with_prefix {t = t} {u = u} ts c e b = record {
+-- the same with tokens c in front
+abbrev behind : {t u m : List Tok} (ts c : List Tok) → ts ≡ c ++ m → Beside t u m → Beside t u ts
+behind {t = t} {u = u} ts c e b = record {
   front = c ++ b.front;
   new = c ++ b.new;
   old_is = e ∙ ap (λ (x : List Tok). c ++ x) b.old_is ∙ sym (append_assoc c b.front t);
@@ -41,34 +40,37 @@ further {t = t} {u = u} b c = record {
   new_is = c.new_is ∙ ap (λ (x : List Tok). c.front ++ x) b.new_is ∙ sym (append_assoc c.front b.front u);
 }
 
-alike_beside : {t u ts : List Tok} → Alike true t u → (b : Beside t u ts) → Alike true ts b.new
+alike_behind : (c t u : List Tok) → Alike everything t u → Alike everything (c ++ t) (c ++ u)
+alike_behind c t u a = λ e. rw (← append_assoc e c t, ← append_assoc e c u) (a (e ++ c))
+
+alike_beside : {t u ts : List Tok} → Alike everything t u → (b : Beside t u ts) → Alike everything ts b.new
 alike_beside {t = t} {u = u} a b = rw (b.old_is, b.new_is) (alike_behind b.front t u a)
 
--- ---- relations between tokens and the rest that they leave
+-- ---- relations between tokens and the rest after a value
 
--- a relation that holds before t holds before u
+-- P relates the same front before u to u, if it relates the front before t to t
 abbrev Moves : (List Tok → List Tok → Type 0) → Type 0
-Moves P = (ts t u : List Tok) → Alike true t u → P ts t → (b : Beside t u ts) × P b.new u
+Moves P = (ts t u : List Tok) → Alike everything t u → P ts t → (b : Beside t u ts) × P b.new u
 
--- before tokens c, and the tokens that have moved after c
-moves_before : {P : List Tok → List Tok → Type 0} {t u m : List Tok} → Moves P → (ts c : List Tok) → Alike true t u → (b : Beside t u m) → P ts (c ++ m) → (d : Beside t u ts) × P d.new (c ++ b.new)
+-- the same for P up to the tokens c, if m follows c and ends in t
+moves_before : {P : List Tok → List Tok → Type 0} {t u m : List Tok} → Moves P → (ts c : List Tok) → Alike everything t u → (b : Beside t u m) → P ts (c ++ m) → (d : Beside t u ts) × P d.new (c ++ b.new)
 moves_before {m = m} p ts c a b s =
-    let d = with_prefix (c ++ m) c refl b in
+    let d = behind (c ++ m) c refl b in
     let y = p ts (c ++ m) (c ++ b.new) (alike_beside a d) s in
     (further d y.0, y.1)
 
 reads_move : (i : Instr) → Moves (reads i)
 reads_move i ts t u a (c, e, s) =
-    (record { front = c; new = c ++ u; old_is = e; new_is = refl }, (c, refl {a = c ++ u}, instruction_independent.moves i c t u a s))
+    (record { front = c; new = c ++ u; old_is = e; new_is = refl }, (c, refl {a = c ++ u}, instruction.moves i c t u (all_asked instruction.asks [] t u a) s))
 
 -- `(`, an instruction, P, `)`, and then Q
-group_moves : {P Q : List Tok → List Tok → Type 0} {t u : List Tok} (i : Instr) → Moves P → Moves Q → (ts a b d : List Tok) → Alike true t u → ts ≡ LParen ∷ a → reads i a b → P b (RParen ∷ d) → Q d t
+group_moves : {P Q : List Tok → List Tok → Type 0} {t u : List Tok} (i : Instr) → Moves P → Moves Q → (ts a b d : List Tok) → Alike everything t u → ts ≡ LParen ∷ a → reads i a b → P b (RParen ∷ d) → Q d t
     → (g : Beside t u ts) × (v w x : List Tok) × (g.new ≡ LParen ∷ v) × reads i v w × P w (RParen ∷ x) × Q x u
 group_moves {t = t} {u = u} i p q ts a b d al e h sp sq =
     let x = q d t u al sq in
     let y = moves_before p b (RParen ∷ []) al x.0 sp in
     let f = moves_before (reads_move i) a [] al y.0 h in
-    (with_prefix ts (LParen ∷ []) e f.0, f.0.new, y.0.new, x.0.new, refl {a = LParen ∷ f.0.new}, f.1, y.1, x.1)
+    (behind ts (LParen ∷ []) e f.0, f.0.new, y.0.new, x.0.new, refl {a = LParen ∷ f.0.new}, f.1, y.1, x.1)
 
 -- ---- items
 
@@ -89,19 +91,19 @@ lists_move (IfThen i ops th xs) ts t u al (a, b, d, e, q, s, h, g, lo, lt, lx) =
     let y = moves_before (lists_move th) d (RParen ∷ RParen ∷ []) al x.0 lt in
     let o = moves_before (lists_move ops) b (LParen ∷ keyword (codes "then") ∷ []) al y.0 lo in
     let f = moves_before (reads_move i) a [] al o.0 h in
-    (with_prefix ts (LParen ∷ []) q f.0, (f.0.new, o.0.new, y.0.new, x.0.new, refl, s, f.1, g, o.1, y.1, x.1))
+    (behind ts (LParen ∷ []) q f.0, (f.0.new, o.0.new, y.0.new, x.0.new, refl, s, f.1, g, o.1, y.1, x.1))
 lists_move (IfElse i ops th el xs) ts t u al (a, b, d, e, j, q, s, h, g, lo, lt, le, lx) =
     let x = lists_move xs j t u al lx in
     let z = moves_before (lists_move el) e (RParen ∷ RParen ∷ []) al x.0 le in
     let y = moves_before (lists_move th) d (RParen ∷ LParen ∷ keyword (codes "else") ∷ []) al z.0 lt in
     let o = moves_before (lists_move ops) b (LParen ∷ keyword (codes "then") ∷ []) al y.0 lo in
     let f = moves_before (reads_move i) a [] al o.0 h in
-    (with_prefix ts (LParen ∷ []) q f.0, (f.0.new, o.0.new, y.0.new, z.0.new, x.0.new, refl, s, f.1, g, o.1, y.1, z.1, x.1))
+    (behind ts (LParen ∷ []) q f.0, (f.0.new, o.0.new, y.0.new, z.0.new, x.0.new, refl, s, f.1, g, o.1, y.1, z.1, x.1))
 lists_move (Hinted v xs) ts t u al (d, e, lt, g, l) =
     let x = lists_move xs d t u al l in
-    (with_prefix ts (LParen ∷ hint_name ∷ String (v ∷ []) ∷ RParen ∷ []) e x.0, (x.0.new, refl, lt, g, x.1))
+    (behind ts (LParen ∷ hint_name ∷ String (v ∷ []) ∷ RParen ∷ []) e x.0, (x.0.new, refl, lt, g, x.1))
 
--- groups of a folded instruction of any kind
+-- groups of a folded instruction
 groups_move : (gs : Groups) → Moves (groups gs)
 groups_move NoGroup ts t u al l = (at_once t u ts l, refl {a = u})
 groups_move (Group i gs hs) ts t u al (a, b, d, e, h, ly, lx) =
@@ -111,24 +113,16 @@ groups_move (Group i gs hs) ts t u al (a, b, d, e, h, ly, lx) =
 -- ---- the productions
 
 module _ {P : List Tok → List Tok → Type 0} (p : Moves P) where
-  -- the prefix that moves is c
-  front_moves : (c t u : List Tok) → Alike true t u → P (c ++ t) t → P (c ++ u) u
+  -- the tokens before t are c
+  front_moves : (c t u : List Tok) → Alike everything t u → P (c ++ t) t → P (c ++ u) u
   front_moves c t u a s =
       let x = p (c ++ t) t u a s in
       subst (λ (w : List Tok). P w u) (x.0.new_is ∙ ap (λ (y : List Tok). y ++ u) (sym (append_cancel_right c x.0.front t x.0.old_is))) x.1
 
-expression_moves : (v : Expr) (c t u : List Tok) → Alike true t u → expression_spells v c t → expression_spells v c u
-expression_moves v c t u a (xs, l, k, e) = (xs, front_moves (lists_move xs) c t u a l, sym (ends_test.same t u a) ∙ k, e)
+pub expression_moves : (v : Expr) (c t u : List Tok) → Alike everything t u → expression_spells v c t → expression_spells v c u
+expression_moves v c t u a (xs, l, k, e) = (xs, front_moves (lists_move xs) c t u a l, a [] true at_ends k, e)
 
-pub expression_independent : IndependentOfRest true expression
-unfolding expression
-expression_independent = record { moves = expression_moves }
-
-folded_moves : (v : Expr) (c t u : List Tok) → Alike true t u → folded_spells v c t → folded_spells v c u
+pub folded_moves : (v : Expr) (c t u : List Tok) → Alike everything t u → folded_spells v c t → folded_spells v c u
 folded_moves v c t u al (i, gs, (a, b, e, h, l), k) =
     let m = front_moves (groups_move (Group i gs NoGroup)) c t u al (a, b, t, e, h, l, refl) in
     (i, gs, (m.0, m.1, m.3, m.4, subst (λ (w : List Tok). groups gs m.1 (RParen ∷ w)) m.6 m.5), k)
-
-pub folded_independent : IndependentOfRest true folded_instruction
-unfolding folded_instruction
-folded_independent = record { moves = folded_moves }
