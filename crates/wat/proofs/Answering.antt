@@ -1,11 +1,9 @@
 -- One more name.
-use Rattle.std.proofs.Common.{◌≡◌, ℕ, ◌+◌, ◌<◌, ◌≤◌, List, [], ◌∷◌, ◌++◌, length, take, map, get_or, subst, sym, ap, ◌∙◌, append_assoc, arith, Ok, Err}
-use Rattle.std.specs.Prelude.{max, Option, Result, OnErr}
-use Rattle.std.specs.Io.KnownBytes.{Appends}
+use Rattle.std.proofs.Common.{◌≡◌, ℕ, ◌+◌, ◌<◌, ◌≤◌, List, [], ◌∷◌, ◌++◌, length, take, map, get_or, subst, sym, ap, ◌∙◌, append_assoc, arith, Ok, Err, max, Option, Result, OnErr}
 use Rattle.std.proofs.KnownBytes.{Appends-trans}
-use Rattle.std.proofs.lemmas.List.{length-map, map-append, take_more, take-map}
+use Rattle.std.proofs.lemmas.List.{map-append, take-map, length-map, take_more}
+use Rattle.wat_answers.specs.Prelude.{Appends, AppendsBeginning}
 use Rattle.wat.specs.Runs.{AnswersNames, WritesPartOfNames, more}
-use Rattle.wat_show.specs.Streams.{AppendsBeginning}
 
 pub answers_more : {S X : Type 0} (answers : S → S → List ℕ → List ℕ → ℕ → Type 0) (start mid end : S) (h : X → List ℕ) (xs : List X) (i : ℕ) (d : X) (out output : List ℕ) (status own : ℕ) → i < length xs → AnswersNames answers start mid (map h (take i xs)) out status → answers mid end (h (get_or xs i d)) output own → AnswersNames answers start end (map h (take (i + 1) xs)) (out ++ output) (max own status)
 answers_more answers start mid end h xs i d out output status own l before next =

@@ -1,11 +1,10 @@
 -- Words up to the first that passes a test, and after it. `h` gives the bytes of a word.
-use Rattle.std.proofs.Common.{◌≡◌, ℕ, ◌+◌, ◌≤◌, List, length, drop, map, sym, ap, ◌∙◌, arith}
-use Rattle.std.specs.Prelude.{Bool, true, not}
-use Rattle.std.specs.List.{after_first, list_all, position_or_len}
+use Rattle.std.proofs.Common.{◌≡◌, ℕ, ◌+◌, ◌≤◌, List, length, drop, map, sym, ap, ◌∙◌, arith, Bool, true, not}
 use Rattle.std.specs.List.Sorted.{IsPermutation}
-use Rattle.std.proofs.lemmas.List.{drop-drop, drop-map, length-map}
+use Rattle.std.proofs.lemmas.List.{drop-drop, drop-map}
 use Rattle.std.proofs.lemmas.List.Sorted.{All-permutation}
 use Rattle.std.proofs.lemmas.List.Sums.{AllPass-from_list_all, list_all-from_AllPass, prefix_len-le-length}
+use Rattle.wat_answers.specs.Prelude.{after_first, list_all, position_or_len, length-map}
 
 -- what stands after the first word that passes, if `rest` begins with that word
 pub end_within : {X A : Type 0} (p : A → Bool) (h : X → A) (xs : List X) (n : ℕ) → n ≡ position_or_len p (map h xs) → n ≤ length xs

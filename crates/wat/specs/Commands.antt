@@ -1,16 +1,11 @@
 -- What the arguments of the program ask for. A word is an argument, as its bytes.
-use Rattle.std.specs.Prelude.{ℕ, ◌==◌, ◌&&◌, ◌||◌, Bool, not, List, [], ◌∷◌, ◌++◌, length, codes}
-use Rattle.std.specs.Prelude.{slice_index, Option, Some, None, Result, Ok, Err, if◌then◌else◌}
-use Rattle.std.specs.Prelude.{nat_lt, filter, position}
-use Rattle.std.specs.List.{list_any, before_first, after_first}
-use Rattle.std.specs.Str.{bytes_eq}
+use Rattle.std.specs.Prelude.{ℕ, ◌==◌, ◌&&◌, ◌||◌, Bool, not, List, [], ◌∷◌, ◌++◌, length, codes, slice_index, Option, Some, None, Result, Ok, Err, if◌then◌else◌, nat_lt, filter, position}
+use Rattle.wat_answers.specs.Prelude.{list_any, before_first, after_first, bytes_eq, Line, Indented}
 use Rattle.wat.specs.declared.command.Command.{Command}
 use Rattle.wat.specs.declared.command.Command.TheVariants.{Read, Format}
 use Rattle.wat.specs.declared.command.Message.{Message}
-use Rattle.wat.specs.declared.command.Message.TheVariants.{Help, Version, NoCommand}
-use Rattle.wat.specs.declared.command.Message.TheVariants.{UnknownCommand, UnknownOption, ListFiles, PrintFiles}
-use Rattle.wat_text.specs.declared.task.Task.TheVariants.{Check, Json, Show, Print}
-use Rattle.wat_print.specs.declared.output.Layout.TheVariants.{Line, Indented}
+use Rattle.wat.specs.declared.command.Message.TheVariants.{Help, Version, NoCommand, UnknownCommand, UnknownOption, ListFiles, PrintFiles}
+use Rattle.wat_answers.specs.declared.task.Task.TheVariants.{Check, Json, Listing, Print}
 
 -- A word is an option if it begins with `-` and is longer. `-` alone is standard input.
 abbrev pub is_option : List ℕ → Bool
@@ -62,7 +57,7 @@ check_of (Ok json) = Ok (Read (if json then Json else Check))
 check_of (Err message) = Err message
 
 abbrev pub list_of : Result Bool Message → ℕ → Result Command Message
-list_of (Ok none) files = if files == 1 then Ok (Read Show) else Err ListFiles
+list_of (Ok none) files = if files == 1 then Ok (Read Listing) else Err ListFiles
 list_of (Err message) files = Err message
 
 abbrev pub print_of : Result Bool Message → ℕ → Result Command Message

@@ -1,22 +1,21 @@
 -- What formatting does and writes.
 use Rattle.std.specs.Prelude.{◌≡◌, ◌≢◌, ◌⊎◌, ℕ, Bool, List, [], ◌∷◌, ◌++◌, codes, if◌then◌else◌}
-use Rattle.std.specs.Str.{bytes_eq}
+use Rattle.wat_answers.specs.Prelude.{bytes_eq, IsFormatted, ReportsBytes}
 use Rattle.wat.specs.Inputs.{shown_name}
-use Rattle.wat.specs.declared.formatting.Way.{Way}
-use Rattle.wat.specs.declared.formatting.Way.TheVariants.{Show, Check, Replace}
-use Rattle.wat_text.specs.Formatted.{IsFormatted, ReportsBytes}
+use Rattle.wat.specs.declared.formatting.FormatTask.{FormatTask}
+use Rattle.wat.specs.declared.formatting.FormatTask.TheVariants.{WriteOut, Check, Replace}
 
 -- `fmt --check` checks each input; `fmt` writes the formatted text of standard input, and puts that
 -- of any other input in its place
-abbrev pub way_of : Bool → List ℕ → Way
-way_of check name = if check then Check else if bytes_eq name (codes "-") then Show else Replace
+abbrev pub format_task : Bool → List ℕ → FormatTask
+format_task check name = if check then Check else if bytes_eq name (codes "-") then WriteOut else Replace
 
 -- What becomes of an input `text` whose formatted text is `answer`, with what is written and the
 -- status. The answer is written; or the name is, with status 1, if the two differ; or the answer
 -- replaces the input, if they differ. The inputs are `old` before and `new` after that.
-unfoldable pub Settles : {P : Type 0} → (P → P → List ℕ → List ℕ → Type 0) → Way → P → P → List ℕ
+unfoldable pub Settles : {P : Type 0} → (P → P → List ℕ → List ℕ → Type 0) → FormatTask → P → P → List ℕ
     → List ℕ → List ℕ → List ℕ → ℕ → Type 0
-Settles puts Show old new name text answer output status =
+Settles puts WriteOut old new name text answer output status =
     (new ≡ old) × (output ≡ answer) × (status ≡ 0)
 Settles puts Check old new name text answer output status =
     (new ≡ old) × (((answer ≡ text) × (output ≡ []) × (status ≡ 0))
@@ -33,11 +32,11 @@ Leaves old new output = (new ≡ old) × (output ≡ [])
 -- their report is not written, and the status is 1. With status 2 the input can't be read or
 -- replaced, or memory runs out.
 unfoldable pub FormatsName : {P : Type 0} → (P → List ℕ → List ℕ → Type 0) → (P → List ℕ → Type 0)
-    → (P → P → List ℕ → List ℕ → Type 0) → Way → P → P → List ℕ → List ℕ → ℕ → Type 0
-FormatsName gives fails puts way old new name output status =
+    → (P → P → List ℕ → List ℕ → Type 0) → FormatTask → P → P → List ℕ → List ℕ → ℕ → Type 0
+FormatsName gives fails puts task old new name output status =
     ((bytes : List ℕ) × gives old name bytes
     × (((answer : List ℕ) × IsFormatted bytes answer
-    × Settles puts way old new name bytes answer output status)
+    × Settles puts task old new name bytes answer output status)
     ⊎ (((report : List ℕ) × ReportsBytes (shown_name name) bytes report) × Leaves old new output
     × (status ≡ 1))))
     ⊎ ((fails old name ⊎ ((bytes : List ℕ) × gives old name bytes)) × Leaves old new output

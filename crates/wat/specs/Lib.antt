@@ -3,3 +3,4 @@ pub mod Directories
 pub mod Formats
 pub mod Inputs
 pub mod Runs
+pub mod Prelude

@@ -1,12 +1,9 @@
 -- The answers of a run over several names.
-use Rattle.std.specs.Prelude.{◌≡◌, ◌⊎◌, ℕ, ◌≤◌, ◌==◌, if◌then◌else◌, List, [], ◌∷◌, ◌++◌, length}
-use Rattle.std.specs.Prelude.{max, take, Option}
-use Rattle.std.specs.Io.KnownBytes.{Appends}
+use Rattle.std.specs.Prelude.{◌≡◌, ◌⊎◌, ℕ, ◌≤◌, ◌==◌, if◌then◌else◌, List, [], ◌∷◌, ◌++◌, length, max, take, Option}
+use Rattle.wat_answers.specs.Prelude.{Appends, AnswersBytes, AppendsBeginning}
 use Rattle.wat.specs.Inputs.{shown_name}
-use Rattle.wat_text.specs.Outcomes.{AnswersBytes}
-use Rattle.wat_text.specs.declared.task.Task.{Task}
-use Rattle.wat_text.specs.declared.task.Task.TheVariants.{Print}
-use Rattle.wat_show.specs.Streams.{AppendsBeginning}
+use Rattle.wat_answers.specs.declared.task.Task.{Task}
+use Rattle.wat_answers.specs.declared.task.Task.TheVariants.{Print}
 
 -- The answer for an input that a name stands for is that for its bytes. It is empty, with status 2,
 -- where the read fails, or where memory runs out after it.

@@ -1,16 +1,12 @@
 //! The arguments of the program: a command, its options, and the inputs.
 
-ghost use Rattle.std.specs.Prelude.{◌≡◌, ◌≤◌, ◌+◌, ◌∷◌, ◌++◌, [], IfOk, codes, filter, length};
-ghost use Rattle.std.specs.Prelude.{map};
-ghost use Rattle.std.specs.List.{after_first, before_first, position_or_len};
-ghost use Rattle.std.specs.String.{string_bytes};
-ghost use Rattle.wat.specs.Commands.{asks_for_help, check_of, command_of, files_of, has_word};
-ghost use Rattle.wat.specs.Commands.{inputs_of, is_end, is_file, is_option, list_of, option_given};
-ghost use Rattle.wat.specs.Commands.{print_of, unknown_option};
+ghost use Rattle.std.specs.Prelude.{◌≡◌, ◌≤◌, ◌+◌, ◌∷◌, ◌++◌, [], IfOk, codes, filter, length, map};
+ghost use Rattle.wat_answers.specs.Prelude.{after_first, before_first, position_or_len, string_bytes};
+ghost use Rattle.wat.specs.Commands.{asks_for_help, check_of, command_of, files_of, has_word, inputs_of, is_end, is_file, is_option, list_of, option_given, print_of, unknown_option};
 
 use std::alloc::{AllocError, Global};
+use wat_answers::Task;
 use wat_print::Layout;
-use wat_text::Task;
 
 /// A command that reads inputs.
 #[derive(Clone, Copy, Debug, PartialEq, Eq)]
@@ -210,7 +206,7 @@ fn list_of(words: &[String]) -> Result<Command, Message>
 {
     option_given("", words)?;
     if file_count(words) == 1 {
-        Ok(Command::Read(Task::Show))
+        Ok(Command::Read(Task::Listing))
     } else {
         Err(Message::ListFiles)
     }

@@ -2,7 +2,7 @@
 
 ghost use Rattle.std.specs.Prelude.{◌≡◌, IfOk, IsTrue};
 ghost use Rattle.std.specs.List.Sorted.{IsSorted};
-ghost use Rattle.std.specs.String.{string_bytes, string_cmp};
+ghost use Rattle.std.specs.String.{string_cmp};
 ghost use Rattle.wat.specs.Directories.{are_wanted, is_wanted};
 
 use crate::run::Watcher;

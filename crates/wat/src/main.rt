@@ -22,8 +22,8 @@ use std::io::Write;
 use std::process::ExitCode;
 use std::rt::Env;
 use std::{env, io};
+use wat_answers::{Task, VERSION};
 use wat_show::Watched;
-use wat_text::{Task, VERSION};
 
 /// The usage.
 const USAGE: &str = "\
@@ -165,8 +165,8 @@ fn run_command(rt: &HostRuntime, command: Command, words: &[String]) -> ExitCode
             work_on(rt, Reading { task, sources }, &found, &mut watcher)
         }
         Command::Format(check) => {
-            let places = SystemInputs { rt };
-            work_on(rt, Formatting { check, places }, &found, &mut watcher)
+            let inputs = SystemInputs { rt };
+            work_on(rt, Formatting { check, inputs }, &found, &mut watcher)
         }
     }
 }

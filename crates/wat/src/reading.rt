@@ -1,7 +1,7 @@
 //! The reading of modules.
 
 ghost use Rattle.std.specs.Prelude.{◌≡◌, ◌⊎◌, ℕ, IfOk, IfErr, List};
-ghost use Rattle.wat_text.specs.Outcomes.{AnswersBytes};
+ghost use Rattle.wat_answers.specs.Outcomes.{AnswersBytes};
 ghost use Rattle.wat.specs.Inputs.{shown_name};
 ghost use Rattle.wat.specs.Runs.{AnswersName, WritesName, written_of};
 
@@ -9,7 +9,7 @@ use crate::run::{Watcher, Work};
 use crate::source::{Sources, shown_name};
 use std::alloc::Global;
 use std::io;
-use wat_text::{Task, answer_for};
+use wat_answers::{Task, answer_for};
 
 /// Reads an input and returns the answer for its bytes, and their status.
 fn read_answer<S: Sources>(

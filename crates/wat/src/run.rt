@@ -1,10 +1,8 @@
 //! A command on its inputs, one after the other.
 
-ghost use Rattle.std.specs.Prelude.{◌≡◌, ℕ, IfOk, IsOkUnless, List, OnErr, map};
-ghost use Rattle.std.specs.Io.KnownBytes.{Appends};
-ghost use Rattle.std.specs.String.{string_bytes};
+ghost use Rattle.std.specs.Prelude.{IsOkUnless, ℕ, IfOk, List, OnErr, map};
+ghost use Rattle.wat_answers.specs.Prelude.{Appends, string_bytes, AppendsBeginning};
 ghost use Rattle.wat.specs.Runs.{WritesNames, WritesPartOfNames};
-ghost use Rattle.wat_show.specs.Streams.{AppendsBeginning};
 
 use crate::directory::Wanted;
 use std::alloc::Global;

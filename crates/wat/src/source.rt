@@ -34,7 +34,7 @@ pub(crate) trait Sources {
 }
 
 /// Inputs that can be replaced.
-pub(crate) trait Places: Sources {
+pub(crate) trait Replaceable: Sources {
     /// From the one to the other, these bytes took the place of the input with that name.
     ghost puts: { Self → Self → List ℕ → List ℕ → Type 0 };
 
@@ -74,7 +74,7 @@ impl<'a, R: Files + Input> Sources for SystemInputs<'a, R> {
     }
 }
 
-impl<'a, R: Files + Input> Places for SystemInputs<'a, R> {
+impl<'a, R: Files + Input> Replaceable for SystemInputs<'a, R> {
     ghost puts = { λ _ _ _ _. ⊤ };
 
     /// Standard input is not replaced: `-` is taken for the path of a file here.

@@ -1,9 +1,8 @@
 -- One more record, and the words of one more notice.
 use Rattle.std.proofs.Common.{◌≡◌, ℕ, ◌+◌, ◌<◌, List, [], ◌∷◌, ◌++◌, length, take, get_or, ap, sym, ◌∙◌, arith, add-zero, zero-add, length-append, append-nil, append_assoc}
 use Rattle.std.proofs.lemmas.List.{take_more}
-use Rattle.wat_c.specs.Faults.{notice_words, record_of, records_of, words_of}
+use Rattle.wat_c.specs.Prelude.{notice_words, record_of, records_of, words_of, Notice}
 use Rattle.wat_c.specs.declared.fault.WatFault.{WatFault}
-use Rattle.wat_text.specs.declared.notice.Notice.{Notice}
 
 -- the words of the last begin behind those of the others
 records_last : (at : ℕ) (ns : List Notice) (n : Notice) → records_of at (ns ++ n ∷ []) ≡ records_of at ns ++ record_of (at + length (words_of ns)) n ∷ []

@@ -1,9 +1,6 @@
 -- What a call for C returns.
-use Rattle.std.specs.Prelude.{◌≡◌, ◌≤◌, ◌<◌, ◌⊎◌, ◌++◌, Bool, ℕ, ℤ, pos, List, length, drop}
-use Rattle.std.specs.Prelude.{if◌then◌else◌}
-use Rattle.wat_print.specs.declared.output.Layout.{Layout}
-use Rattle.wat_print.specs.declared.output.Layout.TheVariants.{Line, Indented}
-use Rattle.wat_text.specs.Formatted.{IsFormatted, ReportsBytes}
+use Rattle.std.specs.Prelude.{◌≡◌, ◌≤◌, ◌<◌, ◌⊎◌, ◌++◌, Bool, ℕ, ℤ, pos, List, length, drop, if◌then◌else◌}
+use Rattle.wat_answers.specs.Prelude.{Layout, Line, Indented, IsFormatted, ReportsBytes}
 
 -- The length of the output is told. Where the room holds the output, the room begins with it, and
 -- the rest of the room is as before; else all of the room is as before.

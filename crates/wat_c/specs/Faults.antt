@@ -1,12 +1,11 @@
 -- Faults as records of numbers.
 use Rattle.std.specs.Prelude.{◌≡◌, ◌⊎◌, ◌+◌, ◌++◌, ◌∷◌, [], ℕ, ℤ, pos, List, flat_map, length}
+use Rattle.wat_answers.specs.Prelude.{ChecksBytes, more_words}
 use Rattle.wat_core.specs.Faults.{fault_number}
 use Rattle.wat_c.specs.Answers.{Filled}
 use Rattle.wat_c.specs.declared.fault.WatFault.{WatFault}
-use Rattle.wat_text.specs.Checked.{ChecksBytes}
-use Rattle.wat_text.specs.Notices.{more_words}
-use Rattle.wat_text.specs.declared.notice.Notice.{Notice}
-use Rattle.wat_text.specs.declared.notice.Notice.TheVariants.{Found, More}
+use Rattle.wat_answers.specs.declared.notice.Notice.{Notice}
+use Rattle.wat_answers.specs.declared.notice.Notice.TheVariants.{Found, More}
 
 -- the words of a notice: of a diagnostic the message, the hint and what could stand there
 abbrev pub notice_words : Notice → List ℕ

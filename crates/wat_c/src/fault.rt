@@ -1,14 +1,13 @@
 //! Faults as records of numbers.
 
-ghost use Rattle.std.specs.Prelude.{◌≡◌, ◌++◌, ◌∷◌, [], IfOk, OnOk, length};
+ghost use Rattle.std.specs.Prelude.{◌≡◌, ◌++◌, IfOk, OnOk, length};
+ghost use Rattle.wat_answers.specs.Notices.{more_words};
 ghost use Rattle.wat_c.specs.Faults.{notice_words, record_of, records_of, words_of};
-ghost use Rattle.wat_text.specs.Checked.{ChecksBytes};
-ghost use Rattle.wat_text.specs.Notices.{more_words};
-ghost use Rattle.wat_text.specs.declared.notice.Notice.TheVariants.{Found, More};
+ghost use Rattle.wat_answers.specs.declared.notice.Notice.TheVariants.{Found, More};
 
 use std::alloc::{AllocError, Global};
+use wat_answers::{Notice, add_more_words};
 use wat_report::Diagnostic;
-use wat_text::{Notice, add_more_words};
 
 /// A fault as C has it. `message`, `hint`, `expected` and `end` are offsets into the messages: the
 /// message is the bytes from `message` up to `hint`, the hint those from `hint` up to `expected`, and

@@ -5,19 +5,18 @@
 #![tactic(auto)]
 
 ghost use Rattle.std.specs.Prelude.{◌≡◌, List, IfOk, codes, pos};
+ghost use Rattle.wat_answers.specs.Prelude.{ChecksBytes, AnswersBytes};
 ghost use Rattle.wat_c.specs.Answers.{Answered, Filled, FormatsBytes, layout_of};
 ghost use Rattle.wat_c.specs.Faults.{FaultsAnswered, records_of, words_of};
-ghost use Rattle.wat_text.specs.Checked.{ChecksBytes};
-ghost use Rattle.wat_text.specs.declared.notice.Notice.{Notice};
-ghost use Rattle.wat_text.specs.Outcomes.{AnswersBytes};
-ghost use Rattle.wat_text.specs.declared.task.Task.TheVariants.{Check, Show, Print};
+ghost use Rattle.wat_answers.specs.declared.notice.Notice.{Notice};
+ghost use Rattle.wat_answers.specs.declared.task.Task.TheVariants.{Check, Listing, Print};
 
 mod fault;
 
 use fault::{Records, WatFault, records_of};
 use std::alloc::{AllocError, Global};
+use wat_answers::{Task, VERSION, answer_for, bytes_formatted, checked_bytes};
 use wat_print::Layout;
-use wat_text::{Task, VERSION, answer_for, bytes_formatted, checked_bytes};
 
 /// The name of the text in reports.
 const NAME: &str = "<text>";
@@ -94,10 +93,10 @@ pub extern "C" fn wat_faults(
 /// first error.
 #[unsafe(no_mangle)]
 pub extern "C" fn wat_list(alloc: Global, text: &[u8], room: &mut [u8], needed: &mut usize) -> i32
-    ensures { Answered (AnswersBytes Show (codes "<text>") text.now) result room.old room.new
+    ensures { Answered (AnswersBytes Listing (codes "<text>") text.now) result room.old room.new
         needed.old needed.new }
 {
-    answer(alloc, Task::Show, text, room, needed)
+    answer(alloc, Task::Listing, text, room, needed)
 }
 
 /// Returns the layout for one line, or for an instruction a line.

@@ -1,18 +1,16 @@
 -- A module's head, and the tokens after its groups.
-use Rattle.std.proofs.Common.{◌≡◌, ℕ, ◌+◌, ◌<◌, ◌≤◌, List, length, drop, get_or, refl, ap, sym, ◌∙◌, drop-drop}
-use Rattle.std.specs.Prelude.{Bool, true, false, ◌&&◌, not, Option, Some, None, codes}
-use Rattle.wat_lexer.specs.Token.{Tok, Placed, Entry, tokens_of}
-use Rattle.wat_lexer.specs.View.{placed, no_entry}
-use Rattle.wat_tokens.specs.Tests.{begins_lparen, begins_word, begins_id, begins_annotation}
-use Rattle.wat_core.specs.Visible.{shown, seen, behind_one, closing, rest_by}
-use Rattle.wat_core.specs.ModuleHead.{behind_id, behind_name, behind_head, has_head, place_of, first_offset, begins_rparen, wrong_end}
-use Rattle.wat_core.proofs.Places.{at_place, past}
+use Rattle.std.proofs.Common.{◌≡◌, ℕ, ◌+◌, ◌<◌, ◌≤◌, List, length, drop, get_or, refl, ap, sym, ◌∙◌, drop-drop, Bool, true, false, ◌&&◌, not, Option, Some, None, codes}
+use Rattle.wat_core.specs.Prelude.{Token, Placed, Entry, tokens_of, placed, no_entry, begins_lparen, begins_word, begins_annotation, shown, seen, closing, rest_by, wrong_end, token_at}
+use Rattle.wat_tokens.specs.Tests.{begins_id}
+use Rattle.wat_core.specs.Visible.{behind_one}
+use Rattle.wat_core.specs.ModuleHead.{behind_id, behind_name, behind_head, has_head, place_of, first_offset, begins_rparen}
+use Rattle.wat_core.proofs.AtIndex.{past}
 
 -- after the first visible token
 behind_first : (known : Bool) (ts ps : List Placed) (i : ℕ) → drop i ps ≡ shown known ts → drop (i + 1) ps ≡ behind_one known ts
 behind_first known ts ps i e = sym (drop-drop 1 i ps) ∙ ap (λ (l : List Placed). drop 1 l) e
 
-sees : (test : List Tok → Bool) {answer : Bool} (ts us : List Placed) → us ≡ ts → test (tokens_of us) ≡ answer → test (tokens_of ts) ≡ answer
+sees : (test : List Token → Bool) {answer : Bool} (ts us : List Placed) → us ≡ ts → test (tokens_of us) ≡ answer → test (tokens_of ts) ≡ answer
 sees test ts us e h = ap (λ (l : List Placed). test (tokens_of l)) (sym e) ∙ h
 
 pub no_id : (ts ps : List Placed) (i : ℕ) → drop i ps ≡ shown true ts → begins_id (tokens_of (drop i ps)) ≡ false → ts ≡ behind_id ts
@@ -86,10 +84,10 @@ pub offset_past : (size : ℕ) (ls : List Entry) (i : ℕ) → length ls ≤ i �
 offset_past size ls i h = ap (place_of size) (past ls i h)
 
 pub offset_here : (size : ℕ) (ls : List Entry) (i : ℕ) → i < length ls → place_of size (drop i (placed ls)) ≡ (get_or ls i no_entry).offset
-offset_here size ls i h = ap (place_of size) (at_place ls i h)
+offset_here size ls i h = ap (place_of size) (token_at ls i h)
 
 pub first_past : (ls : List Entry) (i : ℕ) → length ls ≤ i → first_offset (drop i (placed ls)) ≡ None
 first_past ls i h = ap first_offset (past ls i h)
 
 pub first_here : (size : ℕ) (ls : List Entry) (i : ℕ) → i < length ls → first_offset (drop i (placed ls)) ≡ Some (place_of size (drop i (placed ls)))
-first_here size ls i h = rw (at_place ls i h)
+first_here size ls i h = rw (token_at ls i h)

@@ -3,7 +3,7 @@ pub mod Ends
 pub mod Fields
 pub mod Heads
 pub mod AnyRest
-pub mod Places
+pub mod AtIndex
 pub mod Rows
 pub mod Stands
 pub mod Telling

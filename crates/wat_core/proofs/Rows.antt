@@ -1,55 +1,15 @@
 -- Texts as tokens, and the modules that they spell: the values read from them.
-use Rattle.std.proofs.Common.{◌≡◌, List, [], ◌∷◌, ◌++◌, Some, refl}
+use Rattle.std.specs.Prelude.{◌≡◌, List, [], ◌∷◌, ◌++◌, Some, refl, codes, pos}
 use Rattle.std.specs.Char.{encode_utf8}
-use Rattle.std.specs.Prelude.{codes, pos}
 use Rattle.std.specs.Str.{chars, is_utf8}
-use Rattle.wat_tokens.specs.ManySpells.{many_at, many_reads}
-use Rattle.wat_tokens.specs.NameAnnotation.{name_annotation}
-use Rattle.wat_tokens.specs.Number.{read}
-use Rattle.wat_tokens.specs.Laws.Spelled.{spelled_whole}
-use Rattle.wat_tokens.specs.Token.{Tok, RParen, Keyword, Integer}
-use Rattle.wat_types.specs.Define.{kind, linked, described, maybe_shared, type_def, type_}
-use Rattle.wat_types.specs.Function.{function_groups}
-use Rattle.wat_types.specs.FunctionSpells.{func_groups}
-use Rattle.wat_types.specs.Label.{label}
-use Rattle.wat_types.specs.Limits.{is_64, limits_type, pagesize_or_none, memory_type, table_type}
-use Rattle.wat_types.specs.Recursion.{types, rec}
-use Rattle.wat_types.specs.Reference.{shorthand, ref_type, at_shorthand}
-use Rattle.wat_types.specs.Storage.{global_type}
-use Rattle.wat_types.specs.Use.{type_use}
-use Rattle.wat_types.specs.Value.{val_type}
-use Rattle.wat_links.specs.Custom.{custom}
-use Rattle.wat_links.specs.Raw.{raw_place, raw_data, raw_custom}
-use Rattle.wat_links.specs.Export.{export_kind, export_, inline_export}
-use Rattle.wat_links.specs.Forms.{import_items, imports}
-use Rattle.wat_links.specs.FieldHead.{head}
-use Rattle.wat_links.specs.Import.{single_item, import_choice}
-use Rattle.wat_links.specs.Item.{exact_use, func_kind, item_sig}
-use Rattle.wat_mnemonics.specs.declared.op.Op.TheVariants as word
-use Rattle.wat_instr.specs.Instruction.{instruction}
+use Rattle.wat_fields.specs.Prelude.{many_at, many_reads, name_annotation, read, spelled_whole, Token, RParen, Keyword, Integer, type_, function_groups, func_groups, label, is_64, limits_type, pagesize_or_none, memory_type, table_type, rec, shorthand, ref_type, at_shorthand, global_type, type_use, val_type, custom, raw_place, raw_data, raw_custom, export_kind, export_, inline_export, import_items, imports, head, single_item, import_choice, exact_use, func_kind, item_sig, instruction, operand, alone, ExpressionModel, expression, Nil, grouped_read, group_text, data_kind, data_segment, data_val, data_vals, passive_segment, segment, elem, func_inline, func_defined, func, global_defined, global, locals, memory_kind, memory, index_list, payload, normal_table, table_kind, table, tag}
+use Rattle.wat_core.specs.Prelude.{start, start_or_later_field, global_or_later_field, func_or_later_field, module_field, fields, pieces, module_kind, module_}
+use Rattle.wat_types.specs.Define.{kind, linked, described, maybe_shared, type_def}
+use Rattle.wat_types.specs.Recursion.{types}
 use Rattle.wat_instr.specs.Laws.First.{instruction_read}
-use Rattle.wat_instr.specs.Operand.{operand}
-use Rattle.wat_instr.specs.Operand as operands
-use Rattle.wat_expr.specs.Alone.{alone}
-use Rattle.wat_expr.specs.Expression.{Expr}
-use Rattle.wat_expr.specs.ExpressionProduction.{expression}
-use Rattle.wat_expr.specs.Items.{Nil}
-use Rattle.wat_expr.specs.Laws.Alone.{grouped_read}
-use Rattle.wat_expr.specs.Rows.{group_text}
-use Rattle.wat_fields.specs.Data.{data_kind, data_segment}
-use Rattle.wat_fields.specs.DataVal.{data_val}
-use Rattle.wat_fields.specs.DataVals.{data_vals}
-use Rattle.wat_fields.specs.Elem.{passive_segment, segment, elem}
-use Rattle.wat_fields.specs.Func.{func_inline, func_defined, func}
-use Rattle.wat_fields.specs.Global.{global_defined, global}
-use Rattle.wat_fields.specs.Locals.{locals}
-use Rattle.wat_fields.specs.Memory.{memory_kind, memory}
-use Rattle.wat_fields.specs.Payload.{index_list, payload}
-use Rattle.wat_fields.specs.Table.{normal_table, table_kind, table}
-use Rattle.wat_fields.specs.Tag.{tag}
-use Rattle.wat_core.specs.Field.{start, start_or_later_field, global_or_later_field, func_or_later_field, module_field}
-use Rattle.wat_core.specs.Module.{fields, pieces, module_kind, module_}
 use Rattle.wat_core.specs.Rows.{zero, NamedModule, TwoFields, Binary, Types, Links, Functions, Stores, ZeroGlobal, Segments, Customs}
+use Rattle.wat_mnemonics.specs.declared.op.Op.TheVariants as word
+use Rattle.wat_instr.specs.Operand as operands
 
 -- ---- modules
 
@@ -75,10 +35,10 @@ pub of_links : Links
 unfolding module_ module_kind fields module_field func_or_later_field global_or_later_field start_or_later_field start imports import_items import_choice single_item item_sig func_kind exact_use export_ export_kind type_use function_groups func_groups label name_annotation many_at many_reads read is_utf8 chars encode_utf8
 of_links = (spelled_whole module_ _ _ refl, spelled_whole module_ _ _ refl, spelled_whole module_ _ _ refl)
 
-abbrev closed : List Tok
+abbrev closed : List Token
 closed = RParen ∷ []
 
-abbrev nothing : Expr
+abbrev nothing : ExpressionModel
 nothing = record { instrs = []; hints = [] }
 
 nothing_read : expression.reads closed ≡ Some (nothing, closed)
@@ -93,7 +53,7 @@ pub of_stores : Stores
 unfolding module_ module_kind fields module_field func_or_later_field table table_kind normal_table table_type memory memory_kind memory_type limits_type is_64 ref_type shorthand at_shorthand pagesize_or_none head inline_export label name_annotation many_at many_reads read
 of_stores = (spelled_whole module_ _ _ refl, spelled_whole module_ _ _ refl)
 
-abbrev const_text : List Tok
+abbrev const_text : List Token
 const_text = Keyword (codes "i32.const") ∷ Integer (codes "0") ∷ []
 
 zero_front : instruction.reads (const_text ++ RParen ∷ closed) ≡ Some (zero, RParen ∷ closed)

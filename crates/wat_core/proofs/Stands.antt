@@ -1,16 +1,10 @@
 -- The offsets of a text's tokens: in order, and each parenthesis at a separate byte.
-use Rattle.std.proofs.Common.{◌≡◌, ℕ, ◌-◌, ◌<◌, ◌≤◌, List, [], ◌∷◌, ◌++◌, length, drop, get_or, refl, ap, sym, ◌∙◌, subst, arith, length-append, append_assoc, zero, suc, inl, inr}
-use Rattle.std.specs.Prelude.{Bool, true, false, Option, Some, None}
-use Rattle.std.specs.Str.{IsUtf8}
+use Rattle.std.proofs.Common.{◌≡◌, ℕ, ◌-◌, ◌<◌, ◌≤◌, List, [], ◌∷◌, ◌++◌, length, drop, get_or, refl, ap, sym, ◌∙◌, subst, arith, length-append, append_assoc, zero, suc, inl, inr, Bool, true, false, Option, Some, None}
 use Rattle.std.proofs.Math.Seq.{get_or-append_seam}
-use Rattle.std.proofs.lemmas.Bool.{cases_Bool}
 use Rattle.std.proofs.lemmas.Str.{IsCharBoundary-after_ascii, IsCharBoundary-before_ascii, IsCharBoundary-end}
-use Rattle.wat_lexer.specs.Cut.{Cuts, done, blank, token, Token, IsCut}
-use Rattle.wat_lexer.specs.Sight.{shuts, deeper}
-use Rattle.wat_lexer.specs.Token.{Tok, Placed, LParen, RParen}
+use Rattle.wat_core.specs.Prelude.{IsUtf8, cases_Bool, IsCut, shuts, deeper, Token, Placed, LParen, RParen, closing, end_by, IsPart}
+use Rattle.wat_lexer.specs.Cut.{Cuts, done, blank, token, IsToken}
 use Rattle.wat_lexer.specs.View.{is_paren}
-use Rattle.wat_core.specs.Visible.{closing, end_by}
-use Rattle.wat_core.specs.ModuleGroups.{IsPart}
 
 abbrev pub IsAsciiAt : List ℕ → ℕ → Type 0
 IsAsciiAt text i = (i < length text) × (get_or text i 0 < 128)
@@ -29,7 +23,7 @@ stands_drop text low zero ts s = s
 stands_drop text low (suc i) [] s = tt
 stands_drop text low (suc i) (p ∷ ts) (a, b, c) = stands_drop text low i ts (stands_less text low p.offset ts a c)
 
-paren_byte : (behind : Bool) (x rest : List ℕ) (t : Tok) → Token behind x rest t → is_paren t ≡ true → (b : ℕ) × (y : List ℕ) × (x ≡ b ∷ y) × (b < 128)
+paren_byte : (behind : Bool) (x rest : List ℕ) (t : Token) → IsToken behind x rest t → is_paren t ≡ true → (b : ℕ) × (y : List ℕ) × (x ≡ b ∷ y) × (b < 128)
 paren_byte behind x rest LParen (e, h) p = (40, [], e, omega arith)
 paren_byte behind x rest RParen e p = (41, [], e, omega arith)
 paren_byte behind x rest _ e p = absurd cc
@@ -53,7 +47,7 @@ stands_cuts n behind end ts (token m b whole x rest t us is h c) text before e s
       stands_less text (length before) (length (before ++ x)) us (omega (arith, length-append before x)) (stands_cuts n _ rest us c text (before ++ x) next size),
     )
 
-shuts_paren : (t : Tok) (depth : ℕ) → shuts t depth ≡ true → is_paren t ≡ true
+shuts_paren : (t : Token) (depth : ℕ) → shuts t depth ≡ true → is_paren t ≡ true
 shuts_paren RParen zero h = refl
 shuts_paren RParen (suc depth) h = cc
 shuts_paren _ depth h = cc

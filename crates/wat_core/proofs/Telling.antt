@@ -1,15 +1,11 @@
 -- One more group.
-use Rattle.std.proofs.Common.{◌≡◌, ℕ, ◌+◌, ◌<◌, ◌≤◌, List, [], ◌∷◌, ◌++◌, length, length-append, take, arith, zero, suc, append_assoc, append-nil, ◌∙◌}
-use Rattle.std.specs.Prelude.{true, false}
-use Rattle.wat_tokens.specs.Error.{Error}
-use Rattle.wat_tokens.specs.Tests.{begins_lparen}
-use Rattle.wat_lexer.specs.Token.{Placed}
-use Rattle.wat_core.specs.WrongFields.{AreWrong, none, good, wrong, IsFaultOf, AreFaultsOf, Tells}
-use Rattle.wat_core.specs.Visible.{seen}
-use Rattle.wat_core.specs.ModuleGroups as of_groups
-use Rattle.wat_core.specs.ModuleGroups.{bytes_of, GroupsTo, next, IsNext}
+use Rattle.std.proofs.Common.{◌≡◌, ℕ, ◌+◌, ◌<◌, ◌≤◌, List, [], ◌∷◌, ◌++◌, length, length-append, take, arith, zero, suc, append_assoc, append-nil, ◌∙◌, true, false}
+use Rattle.wat_core.specs.Prelude.{Error, begins_lparen, Placed, seen, GroupsTo, IsNext}
+use Rattle.wat_core.specs.WrongFields.{Tells, AreWrong, none, good, wrong, IsFaultOf, AreFaultsOf}
+use Rattle.wat_core.specs.ModuleGroups.{bytes_of, next}
 use Rattle.wat_core.specs.declared.wrong_fields.FieldFaults.{FieldFaults}
 use Rattle.wat_core.specs.declared.module_group.Group.{Group}
+use Rattle.wat_core.specs.ModuleGroups as of_groups
 
 pub good_behind : {Good : List ℕ → Type 0} {text : List ℕ} (gs ws : List Group) (g : Group) → AreWrong Good text gs ws → Good (bytes_of text g) → AreWrong Good text (gs ++ g ∷ []) ws
 good_behind gs ws g none is = good g [] [] is none

@@ -1,26 +1,18 @@
 -- Fields of a module.
 use Rattle.std.specs.Prelude.{Bool, true, List, codes}
-use Rattle.wat_tokens.specs.Index.{Idx, index_view, index}
-use Rattle.wat_tokens.specs.Parts.{made, where_else, after_word}
-use Rattle.wat_tokens.specs.Production.{Production}
-use Rattle.wat_tokens.specs.Views.{no_items}
-use Rattle.wat_types.specs.Define.{TypeTy, type_view, bare_type, type_}
-use Rattle.wat_types.specs.Recursion.{rec_view, rec}
-use Rattle.wat_links.specs.Custom.{CustomTy, custom_view, bare_custom, custom}
-use Rattle.wat_links.specs.Export.{ExportTy, export_view, export_}
-use Rattle.wat_links.specs.Forms.{imports}
-use Rattle.wat_links.specs.Import.{HeldName, ImportsTy, imports_view, bare_imports}
-use Rattle.wat_fields.specs.Data.{DataTy, data_view, bare_data, data_segment}
-use Rattle.wat_fields.specs.Elem.{ElemTy, elem_view, bare_elem, elem}
-use Rattle.wat_fields.specs.Func.{FuncFieldTy, func_view, bare_func, func}
-use Rattle.wat_fields.specs.Global.{GlobalFieldTy, global_view, bare_global, global}
-use Rattle.wat_fields.specs.Memory.{MemoryTy, memory_view, bare_memory, memory}
-use Rattle.wat_fields.specs.Table.{TableFieldTy, table_view, bare_table, table}
-use Rattle.wat_fields.specs.Tag.{TagTy, tag_view, bare_tag, tag}
-use Rattle.wat_types.specs.declared.define.«Type».{«Type»}
+use Rattle.wat_fields.specs.Prelude.{IndexModel, index_view, index, made, where_else, after_word, Production, no_items, TypeModel, type_view, type_, rec_view, rec, CustomModel, custom_view, custom, ExportModel, export_view, export_, imports, ImportsModel, imports_view, DataModel, data_view, data_segment, ElemModel, elem_view, elem, FuncModel, func_view, func, GlobalModel, global_view, global, MemoryModel, memory_view, memory, TableModel, table_view, table, TagModel, tag_view, tag, at_word}
+use Rattle.wat_types.specs.Define.{heapless_type}
+use Rattle.wat_links.specs.Custom.{heapless_custom}
+use Rattle.wat_links.specs.Import.{HeldName, heapless_imports}
+use Rattle.wat_fields.specs.Data.{heapless_data}
+use Rattle.wat_fields.specs.Elem.{heapless_elem}
+use Rattle.wat_fields.specs.Func.{heapless_func}
+use Rattle.wat_fields.specs.Global.{heapless_global}
+use Rattle.wat_fields.specs.Memory.{heapless_memory}
+use Rattle.wat_fields.specs.Table.{heapless_table}
+use Rattle.wat_fields.specs.Tag.{heapless_tag}
 use Rattle.wat_types.specs.declared.define.Rec.{Rec}
 use Rattle.wat_tokens.specs.declared.index.Index.{Index}
-use Rattle.wat_tokens.specs.Test.{at_word}
 use Rattle.wat_links.specs.declared.custom.Custom.{Custom}
 use Rattle.wat_links.specs.declared.export.Export.{Export}
 use Rattle.wat_links.specs.declared.import.ImportsOf.{ImportsOf}
@@ -33,25 +25,26 @@ use Rattle.wat_fields.specs.declared.memory.Memory.{Memory}
 use Rattle.wat_fields.specs.declared.table.Table.{Table}
 use Rattle.wat_fields.specs.declared.tag.Tag.{Tag}
 use Rattle.wat_core.specs.declared.field.ModuleFieldOf.{ModuleFieldOf}
+use Rattle.wat_types.specs.declared.define.«Type».{«Type»}
 use Rattle.wat_core.specs.declared.field.ModuleFieldOf.TheVariants as code
 
 -- ---- views
 
 -- a field of one of thirteen kinds
-pub data ModuleFieldTy : Type 0 where
-  a_type : TypeTy → ModuleFieldTy
-  a_rec : List TypeTy → ModuleFieldTy
-  an_import : ImportsTy → ModuleFieldTy
-  a_func : FuncFieldTy → ModuleFieldTy
-  a_table : TableFieldTy → ModuleFieldTy
-  a_memory : MemoryTy → ModuleFieldTy
-  a_global : GlobalFieldTy → ModuleFieldTy
-  an_export : ExportTy → ModuleFieldTy
-  a_start : Idx → ModuleFieldTy
-  an_elem : ElemTy → ModuleFieldTy
-  a_data : DataTy → ModuleFieldTy
-  a_tag : TagTy → ModuleFieldTy
-  a_custom : CustomTy → ModuleFieldTy
+pub data ModuleFieldModel : Type 0 where
+  a_type : TypeModel → ModuleFieldModel
+  a_rec : List TypeModel → ModuleFieldModel
+  an_import : ImportsModel → ModuleFieldModel
+  a_func : FuncModel → ModuleFieldModel
+  a_table : TableModel → ModuleFieldModel
+  a_memory : MemoryModel → ModuleFieldModel
+  a_global : GlobalModel → ModuleFieldModel
+  an_export : ExportModel → ModuleFieldModel
+  a_start : IndexModel → ModuleFieldModel
+  an_elem : ElemModel → ModuleFieldModel
+  a_data : DataModel → ModuleFieldModel
+  a_tag : TagModel → ModuleFieldModel
+  a_custom : CustomModel → ModuleFieldModel
 
 -- a field as the code has it
 abbrev pub ModuleField : Type 0
@@ -59,7 +52,7 @@ ModuleField =
     ModuleFieldOf «Type» Rec (ImportsOf HeldName ItemSig) Func Table Memory Global Export Index Elem
     Data Tag Custom
 
-abbrev pub field_view : ModuleField → ModuleFieldTy
+abbrev pub field_view : ModuleField → ModuleFieldModel
 field_view (code.«Type» t) = a_type (type_view t)
 field_view (code.Rec r) = a_rec (rec_view r)
 field_view (code.Import i) = an_import (imports_view i)
@@ -74,30 +67,30 @@ field_view (code.Data d) = a_data (data_view d)
 field_view (code.Tag t) = a_tag (tag_view t)
 field_view (code.Custom c) = a_custom (custom_view c)
 
--- the bare test of the field's kind
-abbrev pub bare_field : ModuleFieldTy → Bool
-bare_field (a_type t) = bare_type t
-bare_field (a_rec ts) = no_items ts
-bare_field (an_import i) = bare_imports i
-bare_field (a_func f) = bare_func f
-bare_field (a_table t) = bare_table t
-bare_field (a_memory m) = bare_memory m
-bare_field (a_global g) = bare_global g
-bare_field (an_export e) = true
-bare_field (a_start i) = true
-bare_field (an_elem e) = bare_elem e
-bare_field (a_data d) = bare_data d
-bare_field (a_tag t) = bare_tag t
-bare_field (a_custom c) = bare_custom c
+-- the heapless test of the field's kind
+abbrev pub heapless_field : ModuleFieldModel → Bool
+heapless_field (a_type t) = heapless_type t
+heapless_field (a_rec ts) = no_items ts
+heapless_field (an_import i) = heapless_imports i
+heapless_field (a_func f) = heapless_func f
+heapless_field (a_table t) = heapless_table t
+heapless_field (a_memory m) = heapless_memory m
+heapless_field (a_global g) = heapless_global g
+heapless_field (an_export e) = true
+heapless_field (a_start i) = true
+heapless_field (an_elem e) = heapless_elem e
+heapless_field (a_data d) = heapless_data d
+heapless_field (a_tag t) = heapless_tag t
+heapless_field (a_custom c) = heapless_custom c
 
 -- ---- the grammar: the next keyword or annotation decides the kind
 
 -- `start` idx
-unfoldable pub start : Production Idx
+unfoldable pub start : Production IndexModel
 start = after_word (codes "start") index
 
 -- Start | Elem | Data | Custom
-unfoldable pub start_or_later_field : Production ModuleFieldTy
+unfoldable pub start_or_later_field : Production ModuleFieldModel
 start_or_later_field =
     where_else (at_word (codes "start")) (made a_start start)
     (where_else (at_word (codes "elem")) (made an_elem elem)
@@ -105,7 +98,7 @@ start_or_later_field =
     (made a_custom custom)))
 
 -- Global | Export | Tag | start_or_later_field
-unfoldable pub global_or_later_field : Production ModuleFieldTy
+unfoldable pub global_or_later_field : Production ModuleFieldModel
 global_or_later_field =
     where_else (at_word (codes "global")) (made a_global global)
     (where_else (at_word (codes "export")) (made an_export export_)
@@ -113,7 +106,7 @@ global_or_later_field =
     start_or_later_field))
 
 -- Func | Table | Memory | global_or_later_field
-unfoldable pub func_or_later_field : Production ModuleFieldTy
+unfoldable pub func_or_later_field : Production ModuleFieldModel
 func_or_later_field =
     where_else (at_word (codes "func")) (made a_func func)
     (where_else (at_word (codes "table")) (made a_table table)
@@ -121,7 +114,7 @@ func_or_later_field =
     global_or_later_field))
 
 -- Type | Rec | Imports | func_or_later_field
-unfoldable pub module_field : Production ModuleFieldTy
+unfoldable pub module_field : Production ModuleFieldModel
 module_field =
     where_else (at_word (codes "type")) (made a_type type_)
     (where_else (at_word (codes "rec")) (made a_rec rec)

@@ -1,8 +1,7 @@
 -- A field in its group.
-use Rattle.wat_tokens.specs.Groups.{paren}
-use Rattle.wat_tokens.specs.Production.{Production}
-use Rattle.wat_core.specs.Field.{ModuleFieldTy, module_field}
+use Rattle.wat_fields.specs.Prelude.{paren, Production}
+use Rattle.wat_core.specs.Field.{ModuleFieldModel, module_field}
 
 -- ( ModuleField )
-abbrev pub field_group : Production ModuleFieldTy
+abbrev pub field_group : Production ModuleFieldModel
 field_group = paren module_field

@@ -3,7 +3,7 @@ pub use Rattle.wat_lexer.specs.Cut
 pub use Rattle.wat_lexer.specs.Faults
 pub use Rattle.wat_lexer.specs.Integer
 pub use Rattle.wat_lexer.specs.Number
-pub use Rattle.wat_lexer.specs.Place as LexerPlace
+pub use Rattle.wat_lexer.specs.Offset as LexerPlace
 pub use Rattle.wat_lexer.specs.Scan
 pub use Rattle.wat_lexer.specs.View
 pub use Rattle.wat_tokens.specs.Adding
@@ -114,7 +114,7 @@ pub use Rattle.wat_expr.specs.Folded
 pub use Rattle.wat_expr.specs.FoldedProduction
 pub use Rattle.wat_expr.specs.GroupTurn
 pub use Rattle.wat_expr.specs.Items
-pub use Rattle.wat_expr.specs.Listed
+pub use Rattle.wat_expr.specs.ItemsRead
 pub use Rattle.wat_expr.specs.Rising
 pub use Rattle.wat_fields.specs.Data
 pub use Rattle.wat_fields.specs.DataVal
@@ -144,3 +144,4 @@ pub mod Rows
 pub mod Text
 pub mod Visible
 pub mod WrongFields
+pub mod Prelude

@@ -1,8 +1,7 @@
 -- The groups of a text.
-use Rattle.std.specs.Prelude.{◌≡◌, ◌≤◌, ℕ, true, false, List, [], ◌∷◌, Option, None, slice_range}
+use Rattle.std.specs.Prelude.{slice_range, ◌≡◌, ◌≤◌, ℕ, true, false, List, [], ◌∷◌, Option, None}
 use Rattle.std.specs.Str.{IsCharBoundary}
-use Rattle.wat_lexer.specs.Token.{Placed, LParen}
-use Rattle.wat_tokens.specs.Tests.{begins_lparen}
+use Rattle.wat_fields.specs.Prelude.{Placed, LParen, begins_lparen}
 use Rattle.wat_core.specs.Visible.{shown, seen, closing, end_by, rest_by}
 use Rattle.wat_core.specs.ModuleHead.{behind_head, has_head, wrong_end}
 use Rattle.wat_core.specs.declared.module_group.Group.{Group}

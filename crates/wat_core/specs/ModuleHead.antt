@@ -1,10 +1,7 @@
 -- A module's head, and the tokens after its groups.
-use Rattle.std.specs.Prelude.{ℕ, ◌≡◌, Bool, true, false, not, ◌&&◌, List, [], ◌∷◌, Option, Some, None, MatchOption}
-use Rattle.std.specs.Prelude.{if◌then◌else◌, codes}
-use Rattle.wat_lexer.specs.Place.{offset_of}
-use Rattle.wat_lexer.specs.Token.{Tok, Placed, RParen}
-use Rattle.wat_tokens.specs.Error.{Error, Unexpected}
-use Rattle.wat_tokens.specs.Tests.{begins_lparen, begins_word, begins_id, begins_annotation}
+use Rattle.std.specs.Prelude.{ℕ, ◌≡◌, Bool, true, false, not, ◌&&◌, List, [], ◌∷◌, Option, Some, None, MatchOption, if◌then◌else◌, codes}
+use Rattle.wat_fields.specs.Prelude.{offset_of, Token, Placed, RParen, Error, begins_lparen, begins_word, begins_id, begins_annotation}
+use Rattle.wat_tokens.specs.Error.{Unexpected}
 use Rattle.wat_core.specs.Visible.{shown, seen, behind_one, closing, rest_by}
 
 -- the tokens after an identifier if an identifier is next, otherwise all tokens
@@ -40,7 +37,7 @@ first_offset [] = None
 first_offset (p ∷ ts) = Some p.offset
 
 -- the first token is `)`
-abbrev pub begins_rparen : List Tok → Bool
+abbrev pub begins_rparen : List Token → Bool
 begins_rparen (RParen ∷ r) = true
 begins_rparen _ = false
 

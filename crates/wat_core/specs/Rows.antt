@@ -1,58 +1,35 @@
 -- Texts as tokens, and the modules that they spell.
 use Rattle.std.specs.Prelude.{ℕ, pos, false, List, [], ◌∷◌, ◌++◌, codes, Some, None}
-use Rattle.wat_tokens.specs.Token.{Tok, Keyword, Id, Integer, String, Annotation}
-use Rattle.wat_tokens.specs.Index.{number}
-use Rattle.wat_tokens.specs.Spelled.{in_parens, Spelled}
-use Rattle.wat_types.specs.Define.{TypeTy}
-use Rattle.wat_types.specs.Define as define
+use Rattle.wat_fields.specs.Prelude.{Token, Keyword, Integer, String, Annotation, number, in_parens, TypeModel, label_of, no_label, use_of, i32, raw, raw_of, AfterLast, export_of, no_head, imports_of, single, InstructionModel, instr_of, group_text, data_of, written, elem_of, func_of, global_of, memory_of, indices, table_of, tag_of}
+use Rattle.wat_core.specs.Prelude.{ModuleFieldModel, a_type, a_rec, an_import, a_func, a_table, a_memory, a_global, an_export, a_start, an_elem, a_data, a_tag, a_custom, text, binary, module_}
+use Rattle.wat_tokens.specs.Spelled.{Spelled}
+use Rattle.wat_core.specs.Module.{module_with}
+use Rattle.wat_tokens.specs.Token.{Id}
 use Rattle.wat_types.specs.Group.{empty_function}
-use Rattle.wat_types.specs.Label.{label_of, no_label}
 use Rattle.wat_types.specs.Reference.{short}
 use Rattle.wat_types.specs.Storage.{plain_global}
-use Rattle.wat_types.specs.Use.{use_of}
-use Rattle.wat_types.specs.Value.{i32}
+use Rattle.wat_types.specs.Define as define
 use Rattle.wat_types.specs.declared.heap.AbstractHeapType.TheVariants as heap_word
-use Rattle.wat_links.specs.Custom.{raw}
-use Rattle.wat_links.specs.Raw.{raw_of}
-use Rattle.wat_links.specs.declared.custom_place.CustomPlace.TheVariants.{AfterLast}
-use Rattle.wat_links.specs.Export.{export_of}
-use Rattle.wat_links.specs.FieldHead.{no_head}
-use Rattle.wat_links.specs.Import.{imports_of, single}
 use Rattle.wat_links.specs.Item as item
 use Rattle.wat_links.specs.declared.export.ExportKind.TheVariants as kind
 use Rattle.wat_mnemonics.specs.declared.op.Op.TheVariants as word
-use Rattle.wat_instr.specs.Instruction.{Instr, instr_of}
 use Rattle.wat_instr.specs.Operand as operands
-use Rattle.wat_expr.specs.Rows.{group_text}
-use Rattle.wat_fields.specs.Data.{data_of}
 use Rattle.wat_fields.specs.Data as segments
-use Rattle.wat_fields.specs.DataVal.{written}
-use Rattle.wat_fields.specs.Elem.{elem_of}
 use Rattle.wat_fields.specs.Elem as elements
-use Rattle.wat_fields.specs.Func.{func_of}
 use Rattle.wat_fields.specs.Func as functions
-use Rattle.wat_fields.specs.Global.{global_of}
 use Rattle.wat_fields.specs.Global as globals
-use Rattle.wat_fields.specs.Memory.{memory_of}
 use Rattle.wat_fields.specs.Memory as memories
-use Rattle.wat_fields.specs.Payload.{indices}
-use Rattle.wat_fields.specs.Table.{table_of}
 use Rattle.wat_fields.specs.Table as tables
-use Rattle.wat_fields.specs.Tag.{tag_of}
-use Rattle.wat_core.specs.Field.{ModuleFieldTy, a_type, a_rec, an_import, a_func, a_table}
-use Rattle.wat_core.specs.Field.{a_memory, a_global, an_export, a_start, an_elem, a_data, a_tag}
-use Rattle.wat_core.specs.Field.{a_custom}
-use Rattle.wat_core.specs.Module.{text, binary, module_with, module_}
 
 -- ---- modules
 
 -- `module`, and then the tokens
-abbrev pub module_and : List Tok → List Tok
+abbrev pub module_and : List Token → List Token
 module_and ts = Keyword (codes "module") ∷ ts
 
 -- `module`, and one group of the word and the tokens, spell a module with this single field and
 -- without identifier and name
-abbrev pub OneField : List ℕ → List Tok → ModuleFieldTy → Type 0
+abbrev pub OneField : List ℕ → List Token → ModuleFieldModel → Type 0
 OneField w ts f =
     Spelled module_ (module_and (group_text w ts)) (module_with no_label (text (f ∷ [])))
 
@@ -83,11 +60,11 @@ Binary =
 -- ---- fields
 
 -- `(func)`
-abbrev pub lone_func_text : List Tok
+abbrev pub lone_func_text : List Token
 lone_func_text = group_text (codes "func") []
 
 -- the type of a function without parameters and results, with nothing else written
-abbrev pub plain_type : TypeTy
+abbrev pub plain_type : TypeModel
 plain_type =
     record {
       label = no_label;
@@ -147,15 +124,15 @@ Stores =
     }))))
 
 -- `i32.const 0`
-abbrev pub zero : Instr
+abbrev pub zero : InstructionModel
 zero = instr_of word.i32_const (operands.integer (pos 0))
 
 -- `i32 (i32.const 0)`
-abbrev pub value_text : List Tok
+abbrev pub value_text : List Token
 value_text =
     Keyword (codes "i32") ∷ group_text (codes "i32.const") (Integer (codes "0") ∷ [])
 
-abbrev pub zero_global : ModuleFieldTy
+abbrev pub zero_global : ModuleFieldModel
 zero_global =
     a_global (global_of no_head (
       plain_global i32,

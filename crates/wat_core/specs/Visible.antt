@@ -1,7 +1,6 @@
 -- Tokens with their offsets: the first visible token, and the `)` that closes a group.
 use Rattle.std.specs.Prelude.{ℕ, ◌+◌, Bool, List, [], ◌∷◌, drop, Option, Some, None, if◌then◌else◌}
-use Rattle.wat_lexer.specs.Sight.{hidden_count, shuts, deeper}
-use Rattle.wat_lexer.specs.Token.{Tok, Placed, tokens_of}
+use Rattle.wat_fields.specs.Prelude.{hidden_count, shuts, deeper, Token, Placed, tokens_of}
 
 -- the tokens from the first visible token on; either the five standard annotations are known, or no
 -- annotation is known
@@ -9,7 +8,7 @@ abbrev pub shown : Bool → List Placed → List Placed
 shown known ts = drop (hidden_count known (tokens_of ts)) ts
 
 -- the same tokens, without their offsets
-abbrev pub seen : Bool → List Placed → List Tok
+abbrev pub seen : Bool → List Placed → List Token
 seen known ts = tokens_of (shown known ts)
 
 -- the tokens after the first visible token

@@ -1,10 +1,6 @@
 -- The results for a text's groups.
 use Rattle.std.specs.Prelude.{◌≡◌, ◌≢◌, ◌≤◌, ℕ, true, List, [], ◌∷◌, length, take}
-use Rattle.wat_lexer.specs.Place.{offset_of}
-use Rattle.wat_tokens.specs.Error.{Error, Memory}
-use Rattle.wat_tokens.specs.Groups.{paren}
-use Rattle.wat_tokens.specs.Production.{Production}
-use Rattle.wat_tokens.specs.Whole.{TextSpells}
+use Rattle.wat_fields.specs.Prelude.{offset_of, Error, Memory, paren, Production, TextSpells}
 use Rattle.wat_core.specs.ModuleGroups.{bytes_of}
 use Rattle.wat_core.specs.declared.wrong_fields.FieldFaults.{FieldFaults}
 use Rattle.wat_core.specs.declared.module_group.Group.{Group}

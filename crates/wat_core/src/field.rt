@@ -1,14 +1,9 @@
 //! Fields of a module.
 
-ghost use Rattle.wat_tokens.specs.Cost.{turns_too};
-ghost use Rattle.wat_tokens.specs.Parts.{made};
-ghost use Rattle.wat_tokens.specs.Reads.{ReadsAt};
-ghost use Rattle.wat_tokens.specs.Views.{owning};
-ghost use Rattle.wat_core.specs.Field.{ModuleFieldTy, field_view, bare_field, a_start, start};
-ghost use Rattle.wat_core.specs.Field.{start_or_later_field, global_or_later_field};
-ghost use Rattle.wat_core.specs.Field.{func_or_later_field, module_field};
+ghost use Rattle.wat_fields.specs.Prelude.{turns_too, made, ReadsAt, owning};
+ghost use Rattle.wat_core.specs.Field.{ModuleFieldModel, field_view, heapless_field, a_start, start, start_or_later_field, global_or_later_field, func_or_later_field, module_field};
 
-use crate::field_of::read_as;
+use crate::field_of::read_field_as;
 use wat_fields::{Data, Elem, Func, Global, Memory, Table, Tag};
 use wat_links::{Custom, Export, Imports};
 use wat_tokens::enclosed::after_word;
@@ -80,7 +75,7 @@ pub type ModuleField<'a> = ModuleFieldOf<
 /// Parses `start` and an index.
 #[tactic(auto, unfolding(crate::specs::Field::start))]
 fn read_start<'a>(parser: &mut Parser<'a>) -> Result<ModuleField<'a>>
-    ensures reads { ReadsAt turns_too (owning field_view bare_field) (made a_start start) result
+    ensures reads { ReadsAt turns_too (owning field_view heapless_field) (made a_start start) result
         parser.old parser.new }
 {
     Ok(ModuleField::Start(after_word(parser, "start")?))
@@ -90,36 +85,36 @@ fn read_start<'a>(parser: &mut Parser<'a>) -> Result<ModuleField<'a>>
 #[tactic(auto, unfolding(crate::specs::Field::start_or_later_field))]
 fn read_start_or_later<'a>(parser: &mut Parser<'a>) -> Result<ModuleField<'a>>
     ensures reads { ReadsAt turns_too
-        (owning field_view bare_field) start_or_later_field result parser.old
+        (owning field_view heapless_field) start_or_later_field result parser.old
         parser.new }
 {
     if parser.next_is("start") {
         return read_start(parser);
     }
     if parser.next_is("elem") {
-        return read_as::<Elem>(parser);
+        return read_field_as::<Elem>(parser);
     }
     if parser.next_is("data") {
-        return read_as::<Data>(parser);
+        return read_field_as::<Data>(parser);
     }
-    read_as::<Custom>(parser)
+    read_field_as::<Custom>(parser)
 }
 
 /// Parses a global, an export, a tag, or a field of `read_start_or_later`.
 #[tactic(auto, unfolding(crate::specs::Field::global_or_later_field))]
 fn read_global_or_later<'a>(parser: &mut Parser<'a>) -> Result<ModuleField<'a>>
     ensures reads { ReadsAt turns_too
-        (owning field_view bare_field) global_or_later_field result parser.old
+        (owning field_view heapless_field) global_or_later_field result parser.old
         parser.new }
 {
     if parser.next_is("global") {
-        return read_as::<Global>(parser);
+        return read_field_as::<Global>(parser);
     }
     if parser.next_is("export") {
-        return read_as::<Export>(parser);
+        return read_field_as::<Export>(parser);
     }
     if parser.next_is("tag") {
-        return read_as::<Tag>(parser);
+        return read_field_as::<Tag>(parser);
     }
     read_start_or_later(parser)
 }
@@ -128,17 +123,17 @@ fn read_global_or_later<'a>(parser: &mut Parser<'a>) -> Result<ModuleField<'a>>
 #[tactic(auto, unfolding(crate::specs::Field::func_or_later_field))]
 fn read_func_or_later<'a>(parser: &mut Parser<'a>) -> Result<ModuleField<'a>>
     ensures reads { ReadsAt turns_too
-        (owning field_view bare_field) func_or_later_field result parser.old
+        (owning field_view heapless_field) func_or_later_field result parser.old
         parser.new }
 {
     if parser.next_is("func") {
-        return read_as::<Func>(parser);
+        return read_field_as::<Func>(parser);
     }
     if parser.next_is("table") {
-        return read_as::<Table>(parser);
+        return read_field_as::<Table>(parser);
     }
     if parser.next_is("memory") {
-        return read_as::<Memory>(parser);
+        return read_field_as::<Memory>(parser);
     }
     read_global_or_later(parser)
 }
@@ -146,9 +141,9 @@ fn read_func_or_later<'a>(parser: &mut Parser<'a>) -> Result<ModuleField<'a>>
 /// Parses the field that the next keyword names. At an annotation `custom`, `producers` or
 /// `dylink.0` it parses a custom section. Any other token is the error Unexpected.
 impl<'a> Parse<'a> for ModuleField<'a> {
-    ghost View = { ModuleFieldTy };
+    ghost View = { ModuleFieldModel };
 
-    ghost view = { owning field_view bare_field };
+    ghost view = { owning field_view heapless_field };
 
     ghost cost = { turns_too };
 
@@ -157,13 +152,13 @@ impl<'a> Parse<'a> for ModuleField<'a> {
     #[tactic(auto, unfolding(crate::specs::Field::module_field))]
     fn parse(parser: &mut Parser<'a>) -> Result<Self> {
         if parser.next_is("type") {
-            return read_as::<Type>(parser);
+            return read_field_as::<Type>(parser);
         }
         if parser.next_is("rec") {
-            return read_as::<Rec>(parser);
+            return read_field_as::<Rec>(parser);
         }
         if parser.next_is("import") {
-            return read_as::<Imports>(parser);
+            return read_field_as::<Imports>(parser);
         }
         read_func_or_later(parser)
     }

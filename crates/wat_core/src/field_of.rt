@@ -1,28 +1,9 @@
 //! The types whose values are fields of a module, and a function that parses such a field.
 
 ghost use Rattle.std.specs.Prelude.{◌≡◌, refl};
-ghost use Rattle.wat_core.specs.Field.{ModuleFieldTy, field_view, bare_field};
-ghost use Rattle.wat_core.specs.Field.{a_type, a_rec, an_import, a_func, a_table, a_memory};
-ghost use Rattle.wat_core.specs.Field.{a_global, an_export, an_elem, a_data, a_tag, a_custom};
+ghost use Rattle.wat_fields.specs.Prelude.{data_view, data_segment, elem_view, elem, func_view, func, global_view, global, memory_view, memory, table_view, table, tag_view, tag, custom_view, custom, export_view, export_, imports, imports_view, turns_too, made, Production, ReadsAt, owning, type_view, type_, rec_view, rec};
+ghost use Rattle.wat_core.specs.Field.{ModuleFieldModel, field_view, heapless_field, a_type, a_rec, an_import, a_func, a_table, a_memory, a_global, an_export, an_elem, a_data, a_tag, a_custom};
 ghost use Rattle.wat_core.specs.FieldOf.{IsFieldOf, made_by};
-ghost use Rattle.wat_fields.specs.Data.{data_view, data_segment};
-ghost use Rattle.wat_fields.specs.Elem.{elem_view, elem};
-ghost use Rattle.wat_fields.specs.Func.{func_view, func};
-ghost use Rattle.wat_fields.specs.Global.{global_view, global};
-ghost use Rattle.wat_fields.specs.Memory.{memory_view, memory};
-ghost use Rattle.wat_fields.specs.Table.{table_view, table};
-ghost use Rattle.wat_fields.specs.Tag.{tag_view, tag};
-ghost use Rattle.wat_links.specs.Custom.{custom_view, custom};
-ghost use Rattle.wat_links.specs.Export.{export_view, export_};
-ghost use Rattle.wat_links.specs.Forms.{imports};
-ghost use Rattle.wat_links.specs.Import.{imports_view};
-ghost use Rattle.wat_tokens.specs.Cost.{turns_too};
-ghost use Rattle.wat_tokens.specs.Parts.{made};
-ghost use Rattle.wat_tokens.specs.Production.{Production};
-ghost use Rattle.wat_tokens.specs.Reads.{ReadsAt};
-ghost use Rattle.wat_tokens.specs.Views.{owning};
-ghost use Rattle.wat_types.specs.Define.{type_view, type_};
-ghost use Rattle.wat_types.specs.Recursion.{rec_view, rec};
 
 use crate::field::ModuleField;
 use wat_fields::{Data, Elem, Func, Global, Memory, Table, Tag};
@@ -33,10 +14,10 @@ use wat_types::{Rec, Type};
 /// A type whose values are fields of a module.
 pub(crate) trait FieldOf<'a>: Parse<'a> {
     /// The production of such a field.
-    ghost form: { Production ModuleFieldTy };
+    ghost form: { Production ModuleFieldModel };
 
     /// The view of a value as a field.
-    ghost seen: { Self → ModuleFieldTy };
+    ghost seen: { Self → ModuleFieldModel };
 
     /// Returns the value as a field.
     fn field(self) -> ModuleField<'a>
@@ -48,8 +29,8 @@ pub(crate) trait FieldOf<'a>: Parse<'a> {
 
 /// Parses a value of the type, and returns it as a field.
 #[inline(always)]
-pub(crate) fn read_as<'a, T: FieldOf<'a>>(parser: &mut Parser<'a>) -> Result<ModuleField<'a>>
-    ensures reads { ReadsAt turns_too (owning field_view bare_field) T.form result parser.old
+pub(crate) fn read_field_as<'a, T: FieldOf<'a>>(parser: &mut Parser<'a>) -> Result<ModuleField<'a>>
+    ensures reads { ReadsAt turns_too (owning field_view heapless_field) T.form result parser.old
         parser.new }
 {
     match T::parse(parser) {

@@ -2,16 +2,12 @@
 //! definitions.
 
 ghost use Rattle.std.specs.Prelude.{◌≡◌, ℕ, Bool, List, true};
+ghost use Rattle.wat_core.specs.Prelude.{ends, Token, folded_instruction, ModuleModel, module_};
 ghost use Rattle.wat_tokens.specs.Once.{HasOneReading};
-ghost use Rattle.wat_tokens.specs.Tests.{ends};
-ghost use Rattle.wat_tokens.specs.Token.{Tok};
 ghost use Rattle.wat_types.specs.Limits.{pagesize_or_none};
 ghost use Rattle.wat_operands.specs.Lanes.{lane_access};
 ghost use Rattle.wat_operands.specs.Memory.{mem_arg, atomic_mem_arg};
-ghost use Rattle.wat_expr.specs.FoldedProduction.{folded_instruction};
-ghost use Rattle.wat_core.specs.Module.{ModuleTy, module_};
-ghost use Rattle.wat_core.specs.Rows.{NamedModule, TwoFields, Binary, Types, Links, Functions};
-ghost use Rattle.wat_core.specs.Rows.{Stores, ZeroGlobal, Segments, Customs};
+ghost use Rattle.wat_core.specs.Rows.{NamedModule, TwoFields, Binary, Types, Links, Functions, Stores, ZeroGlobal, Segments, Customs};
 
 pub use wat_expr::laws::{flat_again, flat_form, hints_in_order, no_more_than_tokens};
 pub use wat_mnemonics::laws::{no_prefix, one_mnemonic, words_in_order};
@@ -35,10 +31,10 @@ pub fn one_reading<'a, T: Parse<'a>>()
 /// the text or a `)`.
 pub fn any_rest()
     // Tokens that spell a module before one end spell the same module before every end.
-    ensures same { (m : ModuleTy) (c r s : List Tok) → module_.spells m c r → ends s ≡ true
+    ensures same { (m : ModuleModel) (c r s : List Token) → module_.spells m c r → ends s ≡ true
         → module_.spells m c s }
     // Tokens spell a module only before an end.
-    ensures ends { (m : ModuleTy) (c r : List Tok) → module_.spells m c r → ends r ≡ true }
+    ensures ends { (m : ModuleModel) (c r : List Token) → module_.spells m c r → ends r ≡ true }
 {}
 
 /// Sample texts that spell modules. These are facts about the definitions alone, so an error that

@@ -12,6 +12,7 @@
 //! `wat_core::wat_mnemonics::find`.
 #![tactic(auto)]
 
+mod at_index;
 pub mod field;
 mod field_of;
 pub mod laws;
@@ -19,7 +20,6 @@ pub mod module;
 pub mod module_group;
 mod module_head;
 pub mod module_text;
-mod place;
 pub mod wrong_fields;
 
 // Modules and their fields.

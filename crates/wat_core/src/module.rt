@@ -1,17 +1,11 @@
 //! Modules.
 
 ghost use Rattle.std.specs.Prelude.{◌≡◌, true, IfOk};
-ghost use Rattle.wat_tokens.specs.Cost.{turns_too};
-ghost use Rattle.wat_tokens.specs.Counts.{Turned, SameSettings};
+ghost use Rattle.wat_fields.specs.Prelude.{turns_too, SameSettings, ReadsAt, visible_tokens, annotated, ends, more, owning};
+ghost use Rattle.wat_tokens.specs.Counts.{Turned};
 ghost use Rattle.wat_tokens.specs.Outcome.{ReadsPrefix, TakesPrefix};
-ghost use Rattle.wat_tokens.specs.Reads.{ReadsAt};
-ghost use Rattle.wat_tokens.specs.Sight.{visible_tokens};
-ghost use Rattle.wat_tokens.specs.State.{annotated};
-ghost use Rattle.wat_tokens.specs.Tests.{ends, more};
-ghost use Rattle.wat_tokens.specs.Views.{owning};
-ghost use Rattle.wat_core.specs.Field.{ModuleFieldTy, field_view, bare_field};
-ghost use Rattle.wat_core.specs.Module.{ModuleTy, module_kind_view, bare_module_kind, module_kind};
-ghost use Rattle.wat_core.specs.Module.{module_view, bare_module, module_};
+ghost use Rattle.wat_core.specs.Field.{ModuleFieldModel, field_view, heapless_field};
+ghost use Rattle.wat_core.specs.Module.{ModuleModel, module_kind_view, heapless_module_kind, module_kind, module_view, heapless_module, module_};
 ghost use Rattle.wat_core.specs.FieldGroup.{field_group};
 
 use crate::field::ModuleField;
@@ -62,9 +56,9 @@ pub type ModuleKind<'a> = ModuleKindOf<ModuleField<'a>, &'a [u8]>;
 struct FieldGroup;
 
 impl<'a> Part<'a, ModuleField<'a>> for FieldGroup {
-    ghost View = { ModuleFieldTy };
+    ghost View = { ModuleFieldModel };
 
-    ghost view = { owning field_view bare_field };
+    ghost view = { owning field_view heapless_field };
 
     ghost cost = { turns_too };
 
@@ -84,7 +78,8 @@ impl<'a> Part<'a, ModuleField<'a>> for FieldGroup {
 /// Parses `binary` and strings, or fields in their groups.
 #[tactic(auto, using(crate::proofs::ToEnd::read_to_end), unfolding(crate::specs::Module::module_kind))]
 fn read_module_kind<'a>(parser: &mut Parser<'a>) -> Result<ModuleKind<'a>>
-    ensures reads { ReadsAt turns_too (owning module_kind_view bare_module_kind) module_kind result
+    ensures reads { ReadsAt turns_too (owning module_kind_view heapless_module_kind) module_kind
+        result
         parser.old parser.new }
 {
     if parser.flag("binary") {
@@ -103,9 +98,9 @@ fn read_module_kind<'a>(parser: &mut Parser<'a>) -> Result<ModuleKind<'a>>
 pub struct VisibleModule<'a>(pub Module<'a>);
 
 impl<'a> Parse<'a> for VisibleModule<'a> {
-    ghost View = { ModuleTy };
+    ghost View = { ModuleModel };
 
-    ghost view = { owning (λ m. module_view m.0) bare_module };
+    ghost view = { owning (λ m. module_view m.0) heapless_module };
 
     ghost cost = { turns_too };
 
@@ -142,7 +137,7 @@ impl<'a> Module<'a> {
         // returned module (`sound`). If a prefix of the next tokens spells a module, the result is
         // that module, or out of memory (`accepts`). A fault other than Memory means that no prefix
         // of the next tokens spells a module (`refused`).
-        ensures reads { ReadsPrefix (owning module_view bare_module) module_ result
+        ensures reads { ReadsPrefix (owning module_view heapless_module) module_ result
             (annotated parser.old) (annotated parser.new) }
         // The left tokens that are visible with the five names are empty or begin with `)`.
         ensures ends { IfOk result (λ _. ends (annotated parser.new).left ≡ true) }

@@ -1,15 +1,12 @@
 //! The groups of a text, each from its `(` to its `)`.
 
-ghost use Rattle.std.specs.Prelude.{◌≡◌, ◌≤◌, ◌<◌, ◌+◌, MatchOption, IfSome, None, Some, true};
-ghost use Rattle.std.specs.Prelude.{false, length, drop};
+ghost use Rattle.std.specs.Prelude.{◌≡◌, ◌≤◌, ◌<◌, ◌+◌, MatchOption, IfSome, None, Some, true, false, length, drop};
 ghost use Rattle.std.proofs.Math.ListN.{get_or};
-ghost use Rattle.wat_lexer.specs.Cut.{IsCut};
-ghost use Rattle.wat_lexer.specs.View.{placed, AreSkips, no_entry};
-ghost use Rattle.wat_tokens.specs.Tests.{begins_lparen};
+ghost use Rattle.wat_fields.specs.Prelude.{IsCut, placed, AreSkips, no_entry, begins_lparen};
 ghost use Rattle.wat_core.specs.Visible.{seen, closing};
 ghost use Rattle.wat_core.specs.ModuleGroups.{IsNext, IsPart};
 
-use crate::place::{first_shown, opens_at};
+use crate::at_index::{first_shown, opens_at};
 use wat_lexer::tokens::Tokens;
 
 /// The part of a text that is one group, in bytes from the start of the text.
@@ -25,7 +22,7 @@ pub struct Group {
 }
 
 /// Returns the place of the `)` that closes the group around a place; None if no `)` closes it.
-#[tactic(auto, using(crate::proofs::Places::closing_steps))]
+#[tactic(auto, using(crate::proofs::AtIndex::closing_steps))]
 pub(crate) fn closing(tokens: &Tokens, from: usize) -> Option<usize>
     requires { from ≤ length tokens.now }
     ensures value { MatchOption result (closing 0 (drop from (placed tokens.now)) ≡ None)

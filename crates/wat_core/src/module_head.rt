@@ -1,16 +1,13 @@
 //! The parts of a module besides its fields: the head, and the tokens after the fields (Text
 //! Format, "Modules").
 
-ghost use Rattle.std.specs.Prelude.{◌≡◌, ◌≤◌, MatchOption, IfSome, true, false};
-ghost use Rattle.std.specs.Prelude.{length, drop};
-ghost use Rattle.wat_lexer.specs.View.{placed, AreSkips};
-ghost use Rattle.wat_lexer.specs.Place.{offset_of};
+ghost use Rattle.std.specs.Prelude.{◌≡◌, ◌≤◌, MatchOption, IfSome, true, false, length, drop};
+ghost use Rattle.wat_fields.specs.Prelude.{placed, AreSkips, offset_of};
 ghost use Rattle.wat_tokens.specs.Error.{Unexpected};
-ghost use Rattle.wat_core.specs.ModuleHead.{place_of, wrong_end, IsUnexpected};
-ghost use Rattle.wat_core.specs.ModuleHead.{behind_id, behind_name, behind_head, has_head};
+ghost use Rattle.wat_core.specs.ModuleHead.{place_of, wrong_end, IsUnexpected, behind_id, behind_name, behind_head, has_head};
 
+use crate::at_index::{closes_at, first_shown, id_at, name_at, opens_at, word_at};
 use crate::module_group::closing;
-use crate::place::{closes_at, first_shown, id_at, name_at, opens_at, word_at};
 use wat_lexer::fault::{Error, Fault, fault_at};
 use wat_lexer::tokens::Tokens;
 

@@ -1,10 +1,7 @@
 //! A module that is a whole text.
 
 ghost use Rattle.std.specs.Prelude.{◌≡◌, ◌≢◌, [], ◌∷◌, IfOk, IfErr, MatchResult};
-ghost use Rattle.wat_core.specs.Module.{ModuleTy, module_view};
-ghost use Rattle.wat_core.specs.Text.{SpellsModule};
-ghost use Rattle.wat_tokens.specs.Error.{Memory};
-ghost use Rattle.wat_tokens.specs.Token.{RParen};
+ghost use Rattle.wat_core.specs.Prelude.{ModuleModel, module_view, SpellsModule, Memory, RParen};
 
 use crate::module::Module;
 use bumpalo::Bump;
@@ -47,7 +44,7 @@ pub fn read_module<'a>(alloc: Global, text: &'a str, arena: &'a Bump) -> Result<
     // The text spells the returned module.
     ensures found { IfOk result (λ m. SpellsModule text.now (module_view m)) }
     // If the text spells a module, the result is that module, or out of memory.
-    ensures only { (m : ModuleTy) → SpellsModule text.now m
+    ensures only { (m : ModuleModel) → SpellsModule text.now m
         → MatchResult result (λ n. module_view n ≡ m) (λ e. e.fault ≡ Memory) }
 {
     // A text has one cut. This law does nothing at run time.

@@ -1,12 +1,7 @@
 //! The errors of a module's fields.
 
-ghost use Rattle.std.specs.Prelude.{◌≡◌, ◌≢◌, ◌≤◌, ◌<◌, ◌+◌, ℕ, List, [], ◌∷◌, ◌++◌, true, take};
-ghost use Rattle.std.specs.Prelude.{length, drop, IfOk, IfErr, OnOk, MatchOption, Option};
-ghost use Rattle.wat_lexer.specs.Cut.{FirstFault, IsCut};
-ghost use Rattle.wat_lexer.specs.Place.{offset_of};
-ghost use Rattle.wat_lexer.specs.Token.{Placed};
-ghost use Rattle.wat_lexer.specs.View.{placed, AreSkips, IfFault};
-ghost use Rattle.wat_tokens.specs.Error.{Memory};
+ghost use Rattle.std.specs.Prelude.{◌≡◌, ◌≢◌, ◌≤◌, ◌<◌, ◌+◌, ℕ, List, [], ◌∷◌, ◌++◌, true, take, length, drop, IfOk, IfErr, OnOk, MatchOption, Option};
+ghost use Rattle.wat_fields.specs.Prelude.{FirstFault, IsCut, offset_of, Placed, placed, AreSkips, IfFault, Memory};
 ghost use Rattle.wat_core.specs.WrongFields.{IsField, IsFaultOf, AreFaultsOf, Tells};
 ghost use Rattle.wat_core.specs.Field.{module_field};
 ghost use Rattle.wat_core.specs.ModuleGroups.{GroupsTo, HasGroups, IsPart, bytes_of};

@@ -1,14 +1,8 @@
 //! The lines of a module's exported functions.
 
 ghost use Rattle.std.specs.Prelude.{◌≡◌, ◌++◌, OnOk, flat_map};
-ghost use Rattle.std.specs.String.{string_bytes};
-ghost use Rattle.wat_core.specs.Field.{field_view};
-ghost use Rattle.wat_core.specs.Module.{fields_view, module_view};
-ghost use Rattle.wat_core.specs.Func.{func_view, func_use_view};
-ghost use Rattle.wat_core.specs.Export.{export_view};
-ghost use Rattle.wat_core.specs.Index.{index_view};
-ghost use Rattle.wat_example.specs.Listing.{indexed_line, use_line, func_lines, export_lines};
-ghost use Rattle.wat_example.specs.Listing.{field_lines, module_lines};
+ghost use Rattle.wat_core.specs.Prelude.{string_bytes, field_view, fields_view, module_view, func_view, func_use_view, export_view, index_view};
+ghost use Rattle.wat_example.specs.Listing.{indexed_line, use_line, func_lines, export_lines, field_lines, module_lines};
 
 use std::alloc::AllocError;
 use wat_core::{

@@ -5,11 +5,8 @@
 #![tactic(auto)]
 
 ghost use Rattle.std.specs.Prelude.{◌≡◌, IfOk, MatchResult};
-ghost use Rattle.std.specs.String.{string_bytes};
-ghost use Rattle.wat_core.specs.Module.{ModuleTy};
+ghost use Rattle.wat_core.specs.Prelude.{string_bytes, ModuleModel, SpellsModule, Memory};
 ghost use Rattle.wat_example.specs.Listing.{module_lines};
-ghost use Rattle.wat_core.specs.Text.{SpellsModule};
-ghost use Rattle.wat_core.specs.Error.{Memory};
 
 mod listing;
 
@@ -25,10 +22,10 @@ use wat_core::{Error, Fault, read_module};
 /// If the text doesn't spell a module, returns the first error that is met.
 pub fn exported(alloc: Global, text: &str) -> Result<String, Error>
     // The result is the lines of the module that the text spells.
-    ensures found { IfOk result (λ out. (m : ModuleTy) × SpellsModule text.now m
+    ensures found { IfOk result (λ out. (m : ModuleModel) × SpellsModule text.now m
         × (string_bytes out ≡ module_lines m)) }
     // If the text spells a module, the result is its lines, or out of memory.
-    ensures only { (m : ModuleTy) → SpellsModule text.now m
+    ensures only { (m : ModuleModel) → SpellsModule text.now m
         → MatchResult result (λ out. string_bytes out ≡ module_lines m) (λ e. e.fault ≡ Memory) }
 {
     let arena = Bump::new(alloc);

@@ -1,12 +1,7 @@
 -- Hints rise, no hint is lost, and an expression has no more instructions than tokens.
 use Rattle.std.proofs.Common.{◌≡◌, ℕ, ◌+◌, ◌≤◌, List, [], ◌∷◌, ◌++◌, length, Option, Some, None, refl, ap, subst, arith, length-append}
-use Rattle.wat_tokens.specs.Token.{Tok, RParen}
-use Rattle.wat_instr.specs.Instruction.{Instr, else_instr, end_instr}
-use Rattle.wat_expr.specs.Expression.{Expr, expression_spells}
-use Rattle.wat_expr.specs.Laws.Facts.{reads_shorter}
-use Rattle.wat_expr.specs.Folded.{Groups, NoGroup, Group, groups, unfolded_groups, folded_spells}
-use Rattle.wat_expr.specs.Items.{Items, Nil, Plain, Folded, Block, IfThen, IfElse, Hinted, lists, unfolded, hints, hints_behind, mark, count_hints}
-use Rattle.wat_expr.specs.Progress.{Fits}
+use Rattle.wat_expr.specs.Prelude.{Token, RParen, InstructionModel, else_instr, end_instr, ExpressionModel, expression_spells, reads_shorter, Groups, NoGroup, Group, groups, unfolded_groups, folded_spells, Items, Nil, Plain, Folded, Block, IfThen, IfElse, Hinted, lists, unfolded, hints, hints_behind, mark, Fits}
+use Rattle.wat_expr.specs.Items.{count_hints}
 use Rattle.wat_expr.specs.Rising.{Rises}
 
 later : (a b e : ℕ) (hs : List (ℕ × ℕ)) → a ≤ b → Rises b hs e → Rises a hs e
@@ -30,14 +25,14 @@ skips b e [] r = omega arith
 skips b e (h ∷ hs) r = (r.0, skips (h.0 + 1) e hs r.1)
 
 -- the number of instructions
-long_block : (i : Instr) (ys xs : Items) → length (unfolded (Block i ys xs)) ≡ length (unfolded ys) + length (unfolded xs) + 2
+long_block : (i : InstructionModel) (ys xs : Items) → length (unfolded (Block i ys xs)) ≡ length (unfolded ys) + length (unfolded xs) + 2
 long_block i ys xs = omega (arith, length-append (i ∷ (unfolded ys ++ end_instr ∷ [])) (unfolded xs), length-append (unfolded ys) (end_instr ∷ []))
 
-long_then : (i : Instr) (ops th xs : Items) → length (unfolded (IfThen i ops th xs)) ≡ length (unfolded ops) + length (unfolded th) + length (unfolded xs) + 2
+long_then : (i : InstructionModel) (ops th xs : Items) → length (unfolded (IfThen i ops th xs)) ≡ length (unfolded ops) + length (unfolded th) + length (unfolded xs) + 2
 long_then i ops th xs =
     let t = unfolded th ++ end_instr ∷ [] in omega (arith, length-append (unfolded ops ++ (i ∷ t)) (unfolded xs), length-append (unfolded ops) (i ∷ t), length-append (unfolded th) (end_instr ∷ []))
 
-long_else : (i : Instr) (ops th el xs : Items) → length (unfolded (IfElse i ops th el xs)) ≡ length (unfolded ops) + length (unfolded th) + length (unfolded el) + length (unfolded xs) + 3
+long_else : (i : InstructionModel) (ops th el xs : Items) → length (unfolded (IfElse i ops th el xs)) ≡ length (unfolded ops) + length (unfolded th) + length (unfolded el) + length (unfolded xs) + 3
 long_else i ops th el xs =
     let u = else_instr ∷ (unfolded el ++ end_instr ∷ []) in
     let t = i ∷ (unfolded th ++ u) in
@@ -50,7 +45,7 @@ hints_rise p (Plain i xs) b =
     till b _ _ _ q (joins _ _ _ _ _ (one_mark p b) (hints_rise None xs (b + 1)))
 hints_rise p (Folded i ys xs) b =
     let m = b + length (unfolded ys) in
-    let q : m + 1 + length (unfolded xs) ≡ b + length (unfolded (Folded i ys xs)) = omega (arith, length-append {A = Instr}) in
+    let q : m + 1 + length (unfolded xs) ≡ b + length (unfolded (Folded i ys xs)) = omega (arith, length-append {A = InstructionModel}) in
     till b _ _ _ q (joins _ _ _ _ _ (joins _ _ _ _ _ (hints_rise None ys b) (one_mark p m)) (hints_rise None xs (m + 1)))
 hints_rise p (Block i ys xs) b =
     let m = b + 1 + length (unfolded ys) in
@@ -69,7 +64,7 @@ hints_rise p (IfElse i ops th el xs) b =
     till b _ _ _ q (joins _ _ _ _ _ (skips _ _ _ (joins _ _ _ _ _ (hints_rise None ops b) (joins _ _ _ _ _ (one_mark p h) (joins _ _ _ _ _ (skips _ _ _ (hints_rise None th (h + 1))) (hints_rise None el (m + 1)))))) (hints_rise None xs (n + 1)))
 hints_rise p (Hinted v xs) b = hints_rise (Some v) xs b
 
-pub spelled_hints_rise : (v : Expr) (c r : List Tok) → expression_spells v c r → Rises 0 v.hints (length v.instrs)
+pub spelled_hints_rise : (v : ExpressionModel) (c r : List Token) → expression_spells v c r → Rises 0 v.hints (length v.instrs)
 spelled_hints_rise v c r (xs, l, k, e) =
     let n : 0 + length (unfolded xs) ≡ length (unfolded xs) = omega arith in
     rw e (till 0 (0 + length (unfolded xs)) (length (unfolded xs)) (hints xs 0) n (hints_rise None xs 0))
@@ -85,7 +80,7 @@ as_marked : (p : Option ℕ) (b : ℕ) → length (mark p b) ≡ pending p
 as_marked None b = refl
 as_marked (Some v) b = refl
 
-as_many : (p : Option ℕ) (xs : Items) (b : ℕ) (t r : List Tok) → Fits p xs → lists xs t r → length (hints_behind p xs b) ≡ pending p + count_hints xs
+as_many : (p : Option ℕ) (xs : Items) (b : ℕ) (t r : List Token) → Fits p xs → lists xs t r → length (hints_behind p xs b) ≡ pending p + count_hints xs
 as_many None Nil b t r f l = refl
 as_many (Some v) Nil b t r f l = absurd f
 as_many p (Plain i xs) b t r f (m, h, l) = omega (arith, as_many None xs (b + 1) m r tt l, as_marked p b, length-append {A = ℕ × ℕ})
@@ -109,16 +104,16 @@ as_many p (IfElse i ops th el xs) b t r f (u, v, w, x, y, e, k, h, g, lo, lt, le
 as_many None (Hinted v xs) b t r f (d, e, lt, g, l) = omega (arith, as_many (Some v) xs b d r g l)
 as_many (Some u) (Hinted v xs) b t r f l = absurd f
 
-pub none_lost : (xs : Items) (t r : List Tok) → lists xs t r → length (hints xs 0) ≡ count_hints xs
+pub none_lost : (xs : Items) (t r : List Token) → lists xs t r → length (hints xs 0) ≡ count_hints xs
 none_lost xs t r l = omega (arith, as_many None xs 0 t r tt l)
 
 -- ---- no more instructions than tokens
 
-fewer_than_tokens : (xs : Items) (t r : List Tok) → lists xs t r → length (unfolded xs) + length r ≤ length t
+fewer_than_tokens : (xs : Items) (t r : List Token) → lists xs t r → length (unfolded xs) + length r ≤ length t
 fewer_than_tokens Nil t r l = rw l (omega arith)
 fewer_than_tokens (Plain i xs) t r (m, h, l) = omega (arith, reads_shorter i t m h, fewer_than_tokens xs m r l)
 fewer_than_tokens (Folded i ys xs) t r (u, v, w, e, k, h, ly, lx) =
-    omega (arith, ap length e, length-append {A = Instr}, reads_shorter i u v h, fewer_than_tokens ys v (RParen ∷ w) ly, fewer_than_tokens xs w r lx)
+    omega (arith, ap length e, length-append {A = InstructionModel}, reads_shorter i u v h, fewer_than_tokens ys v (RParen ∷ w) ly, fewer_than_tokens xs w r lx)
 fewer_than_tokens (Block i ys xs) t r (u, v, w, e, k, h, ly, lx) =
     omega (arith, ap length e, long_block i ys xs, reads_shorter i u v h, fewer_than_tokens ys v (RParen ∷ w) ly, fewer_than_tokens xs w r lx)
 fewer_than_tokens (IfThen i ops th xs) t r (u, v, w, x, e, k, h, g, lo, lt, lx) =
@@ -132,17 +127,17 @@ fewer_than_tokens (IfElse i ops th el xs) t r (u, v, w, x, y, e, k, h, g, lo, lt
     omega (arith, ap length e, long_else i ops th el xs, reads_shorter i u v h, a, b, c, fewer_than_tokens xs y r lx)
 fewer_than_tokens (Hinted v xs) t r (d, e, lt, g, l) = omega (arith, ap length e, fewer_than_tokens xs d r l)
 
-pub spelled_fewer : (v : Expr) (c r : List Tok) → expression_spells v c r → length v.instrs ≤ length c
+pub spelled_fewer : (v : ExpressionModel) (c r : List Token) → expression_spells v c r → length v.instrs ≤ length c
 spelled_fewer v c r (xs, l, k, e) =
-    let f : length v.instrs ≡ length (unfolded xs) = ap (λ (x : Expr). length x.instrs) e in
+    let f : length v.instrs ≡ length (unfolded xs) = ap (λ (x : ExpressionModel). length x.instrs) e in
     omega (arith, f, fewer_than_tokens xs (c ++ r) r l, length-append c r)
 
-groups_fewer : (gs : Groups) (t r : List Tok) → groups gs t r → length (unfolded_groups gs) + length r ≤ length t
+groups_fewer : (gs : Groups) (t r : List Token) → groups gs t r → length (unfolded_groups gs) + length r ≤ length t
 groups_fewer NoGroup t r l = rw l (omega arith)
 groups_fewer (Group i gs hs) t r (u, v, w, e, h, l, k) =
-    omega (arith, ap length e, length-append {A = Instr}, reads_shorter i u v h, groups_fewer gs v (RParen ∷ w) l, groups_fewer hs w r k)
+    omega (arith, ap length e, length-append {A = InstructionModel}, reads_shorter i u v h, groups_fewer gs v (RParen ∷ w) l, groups_fewer hs w r k)
 
-pub folded_fewer : (v : Expr) (c r : List Tok) → folded_spells v c r → length v.instrs ≤ length c
+pub folded_fewer : (v : ExpressionModel) (c r : List Token) → folded_spells v c r → length v.instrs ≤ length c
 folded_fewer v c r (i, gs, (a, b, e, h, l), k) =
-    let f : length v.instrs ≡ length (unfolded_groups gs ++ i ∷ []) = ap (λ (x : Expr). length x.instrs) k in
-    omega (arith, f, reads_shorter i a b h, groups_fewer gs b (RParen ∷ r) l, ap length e, length-append c r, length-append {A = Instr})
+    let f : length v.instrs ≡ length (unfolded_groups gs ++ i ∷ []) = ap (λ (x : ExpressionModel). length x.instrs) k in
+    omega (arith, f, reads_shorter i a b h, groups_fewer gs b (RParen ∷ r) l, ap length e, length-append c r, length-append {A = InstructionModel})

@@ -1,17 +1,15 @@
 -- The output after the items, turn by turn, has their unfolded instructions, hints and numbers.
-use Rattle.std.proofs.Common.{◌≡◌, ℕ, suc, ◌+◌, ◌≤◌, [], ◌∷◌, ◌++◌, length, Option, Some, None, Bool, true, false, refl, sym, ap, subst, ◌∙◌, arith, append_assoc, length-append}
-use Rattle.std.proofs.lemmas.List.{append-nil}
-use Rattle.std.specs.Prelude.{max, if◌then◌else◌}
-use Rattle.wat_instr.specs.Instruction.{Instr, else_instr, end_instr}
-use Rattle.wat_expr.specs.Flat.{Flat, push, one_more}
-use Rattle.wat_expr.specs.Items.{Items, Nil, Plain, Folded, Block, IfThen, IfElse, Hinted, unfolded, hints_behind, count, depth, deep}
-use Rattle.wat_expr.specs.Progress.{TalliedFlat, with_instr, item_more, noted, emit}
+use Rattle.std.proofs.Common.{◌≡◌, ℕ, suc, ◌+◌, ◌≤◌, [], ◌∷◌, ◌++◌, length, Option, Some, None, Bool, true, false, refl, sym, ap, subst, ◌∙◌, arith, append_assoc, length-append, max, if◌then◌else◌}
+use Rattle.wat_expr.specs.Prelude.{append-nil, InstructionModel, else_instr, end_instr, Flat, push, Items, Nil, Plain, Folded, Block, IfThen, IfElse, Hinted, unfolded, hints_behind, TalliedFlat, item_more, noted, emit}
+use Rattle.wat_expr.specs.Flat.{one_more}
+use Rattle.wat_expr.specs.Items.{count, depth, deep}
+use Rattle.wat_expr.specs.Progress.{with_instr}
 
 -- one span for each instruction, if spans are kept
 abbrev pub Spanned : Bool → Flat → Type 0
 Spanned keeps f = f.spans ≡ (if keeps then Some (length f.instrs) else None)
 
-pub spanned : (keeps : Bool) (p : Option ℕ) (i : Instr) (f : Flat) → Spanned keeps f → Spanned keeps (push p i f)
+pub spanned : (keeps : Bool) (p : Option ℕ) (i : InstructionModel) (f : Flat) → Spanned keeps f → Spanned keeps (push p i f)
 spanned true p i f s = ap one_more s ∙ ap (λ (n : ℕ). Some n) (omega (arith, length-append f.instrs (i ∷ [])))
 spanned false p i f s = ap one_more s
 

@@ -1,39 +1,22 @@
 -- The reading of a folded instruction, and the invariant of the loop over its groups.
-use Rattle.std.proofs.Common.{◌≡◌, suc, List, [], ◌∷◌, length, Some, None, false, refl, sym, ap, ◌∙◌, arith, ◌⊎◌, inl, inr, ℕ, ◌+◌, ◌≤◌, ◌<◌, ◌++◌, Option, Bool, true, append_assoc}
-use Rattle.wat_tokens.specs.Token.{Tok, LParen, RParen}
-use Rattle.wat_tokens.specs.Laws.Filled.{filled_behind}
-use Rattle.wat_tokens.specs.Production.{Read, some_of}
-use Rattle.wat_tokens.specs.Laws.Production.{by_read, some_is, none_is_not}
-use Rattle.wat_tokens.specs.Tests.{as_lparen}
-use Rattle.wat_instr.specs.Instruction.{Instr}
-use Rattle.wat_expr.specs.Expression.{Expr, bare_expression, expression_view}
-use Rattle.wat_expr.specs.Laws.Facts.{read_of, reads_balanced, reads_shorter}
-use Rattle.wat_expr.specs.Items.{reads}
-use Rattle.wat_expr.specs.Folded.{Groups, unfolded_groups, is_folded, folded_value, folded_reads, NoGroup, Group, groups, count_groups, depth_groups}
-use Rattle.wat_expr.specs.Laws.Folded.{groups_at_complete, folded_sound}
-use Rattle.std.specs.Prelude.{MatchBool, max}
-use Rattle.std.proofs.lemmas.List.{append-nil}
-use Rattle.wat_tokens.specs.Counts.{Carries, SameSettings, Quiet, Stays}
-use Rattle.wat_tokens.specs.Parens.{opens, closes}
-use Rattle.wat_tokens.specs.Parses.{NotBare}
-use Rattle.wat_tokens.specs.PartSpells.{one_reads}
-use Rattle.wat_tokens.specs.State.{State}
-use Rattle.wat_tokens.specs.Views.{no_items}
-use Rattle.wat_expr.specs.Flat.{Flat, flat, no_output}
+use Rattle.std.proofs.Common.{◌≡◌, suc, List, [], ◌∷◌, length, Some, None, false, refl, sym, ap, ◌∙◌, arith, ◌⊎◌, inl, inr, ℕ, ◌+◌, ◌≤◌, ◌<◌, ◌++◌, Option, Bool, true, append_assoc, MatchBool, max}
+use Rattle.wat_expr.specs.Prelude.{append-nil, Token, LParen, RParen, filled_behind, Read, some_of, by_read, as_lparen, InstructionModel, ExpressionModel, heapless_expression, expression_view, read_of, reads_balanced, reads_shorter, reads, Groups, unfolded_groups, is_folded, folded_value, folded_reads, NoGroup, Group, groups, groups_at_complete, Carries, SameSettings, Stays, opens, closes, NotHeapless, one_reads, State, no_items, Flat, flat, no_output, group_state, IsHalted, OpenGroup, InFolded, heads_in}
+use Rattle.wat_expr.specs.Folded.{count_groups, depth_groups}
+use Rattle.wat_expr.specs.Laws.Folded.{folded_sound}
+use Rattle.wat_tokens.specs.Counts.{Quiet}
+use Rattle.wat_expr.specs.GroupTurn.{Opens, Closes}
 use Rattle.wat_expr.specs.declared.expression.Expression.{Expression}
-use Rattle.wat_expr.specs.GroupTurn.{group_state, Opens, Closes, IsHalted}
-use Rattle.wat_expr.specs.OpenGroups.{OpenGroup, InFolded, heads_in}
-use Rattle.wat_expr.specs.Listed.{IsFolded}
+use Rattle.wat_expr.specs.ItemsRead.{IsFolded}
 use Rattle.wat_expr.proofs.Flatten.{Spanned, spanned}
 use Rattle.wat_expr.proofs.Fronts.{same_group}
 use Rattle.wat_expr.proofs.Heights.{carries_height, taken_more, taken_one}
 
 -- a group at the front of the tokens is read
-pub read_folded : (i : Instr) (gs : Groups) (ts r : List Tok) → is_folded i gs ts r → folded_reads ts ≡ Some (folded_value i gs, r)
+pub read_folded : (i : InstructionModel) (gs : Groups) (ts r : List Token) → is_folded i gs ts r → folded_reads ts ≡ Some (folded_value i gs, r)
 read_folded i gs ts r (a, b, e, h, l) = rw (e, read_of i a b h, groups_at_complete gs (suc (length b)) b r (omega arith) l) refl
 
 -- if no group is at the front of the tokens, nothing is read
-pub read_none : (ts : List Tok) → ((i : Instr) (gs : Groups) (r : List Tok) → is_folded i gs ts r → ⊥) → folded_reads ts ≡ None
+pub read_none : (ts : List Token) → ((i : InstructionModel) (gs : Groups) (r : List Token) → is_folded i gs ts r → ⊥) → folded_reads ts ≡ None
 read_none ts never =
     by_read (folded_reads ts)
     (λ y e. (let f = folded_sound ts y e in
@@ -41,34 +24,29 @@ read_none ts never =
     absurd (never s.0 s.1 y.1 (rw (← f.1) at s.2))))
     (λ e. e)
 
-pub not_bare_of : (x : Read Expr) → ((y : Expr × List Tok) → x ≡ Some y → no_items y.0.instrs ≡ false) → NotBare bare_expression x
-not_bare_of (Some y) k = k y refl
-not_bare_of None k = tt
+pub not_heapless_of : (x : Read ExpressionModel) → ((y : ExpressionModel × List Token) → x ≡ Some y → no_items y.0.instrs ≡ false) → NotHeapless heapless_expression x
+not_heapless_of (Some y) k = k y refl
+not_heapless_of None k = tt
 
--- a folded instruction is not bare
-pub read_not_bare : (ts : List Tok) → NotBare bare_expression (folded_reads ts)
-read_not_bare ts =
-    not_bare_of (folded_reads ts) (λ y e. (let s = (folded_sound ts y e).2 in
-    ap (λ (v : Expr). no_items v.instrs) s.3 ∙ filled_behind (unfolded_groups s.1) (s.0 ∷ []) refl))
+-- a folded instruction is not heapless
+pub read_not_heapless : (ts : List Token) → NotHeapless heapless_expression (folded_reads ts)
+read_not_heapless ts =
+    not_heapless_of (folded_reads ts) (λ y e. (let s = (folded_sound ts y e).2 in
+    ap (λ (v : ExpressionModel). no_items v.instrs) s.3 ∙ filled_behind (unfolded_groups s.1) (s.0 ∷ []) refl))
 
 -- ---- the first tokens
 
-pub begun : (ts r : List Tok) (x : Unit {0}) → one_reads as_lparen ts ≡ Some (x, r) → ts ≡ LParen ∷ r
-begun [] r x e = none_is_not (x, r) e
-begun (LParen ∷ ts) r x e = ap (λ (u : Unit {0} × List Tok). LParen ∷ u.1) (some_is (tt, ts) (x, r) e)
-begun (_ ∷ ts) r x e = none_is_not (x, r) e
-
-pub not_begun : (ts : List Tok) → one_reads as_lparen ts ≡ None → folded_reads ts ≡ None
+pub not_begun : (ts : List Token) → one_reads as_lparen ts ≡ None → folded_reads ts ≡ None
 not_begun [] e = refl
 not_begun (LParen ∷ ts) e = absurd cc
 not_begun (_ ∷ ts) e = refl
 
-pub no_word : (ts a : List Tok) → ts ≡ LParen ∷ a → ((i : Instr) (m : List Tok) → reads i a m → ⊥) → folded_reads ts ≡ None
+pub no_word : (ts a : List Token) → ts ≡ LParen ∷ a → ((i : InstructionModel) (m : List Token) → reads i a m → ⊥) → folded_reads ts ≡ None
 no_word ts a e never = read_none ts (λ i gs r k. (let f = k.2 in let ea : k.0 ≡ a = cc in never i k.1 (rw ea at k.3)))
 
 -- the instructions so far, the turns, and the greatest numbers of open groups and of heads
 pub record Sum : Type 0 where
-  pub instrs : List Instr
+  pub instrs : List InstructionModel
   pub turns : ℕ
   pub peak : ℕ
   pub held : ℕ
@@ -78,7 +56,7 @@ abbrev pub opened : ℕ → ℕ → Sum → Sum
 opened k h f = record { instrs = f.instrs; turns = f.turns + 1; peak = max f.peak k; held = max f.held h }
 
 -- the turn that closes the group of the instruction; then k open groups hold h heads
-abbrev pub closed : ℕ → ℕ → Instr → Sum → Sum
+abbrev pub closed : ℕ → ℕ → InstructionModel → Sum → Sum
 closed k h i f = record { instrs = f.instrs ++ i ∷ []; turns = f.turns + 1; peak = max f.peak k; held = max f.held h }
 
 -- the sum after the groups, in k open groups that hold h heads
@@ -87,44 +65,44 @@ fold k h NoGroup f = f
 fold k h (Group i gs hs) f = fold k h hs (closed k h i (fold (suc k) (suc h) gs (opened (suc k) (suc h) f)))
 
 -- the remaining work of the loop, until r is left and the sum is o
-abbrev pub unwinds : Sum → List Tok → List OpenGroup → List Tok → Sum → Type 0
+abbrev pub unwinds : Sum → List Token → List OpenGroup → List Token → Sum → Type 0
 unwinds o r [] ts f = (ts ≡ r) × (f ≡ o)
 unwinds o r (InFolded i p ∷ s) ts f =
-    (gs : Groups) × (m : List Tok) × groups gs ts (RParen ∷ m) × unwinds o r s m (closed (length s) (heads_in s) i (fold (suc (length s)) (suc (heads_in s)) gs f))
+    (gs : Groups) × (m : List Token) × groups gs ts (RParen ∷ m) × unwinds o r s m (closed (length s) (heads_in s) i (fold (suc (length s)) (suc (heads_in s)) gs f))
 unwinds o r (l ∷ s) ts f = ⊥
 
 -- the remaining work is the same from both places
-pub record SameToDo (s : List OpenGroup) (ts : List Tok) (f : Sum) (s' : List OpenGroup) (ts' : List Tok) (f' : Sum) : Type 0 where
-  pub forth : (o : Sum) (r : List Tok) → unwinds o r s ts f → unwinds o r s' ts' f'
-  pub back : (o : Sum) (r : List Tok) → unwinds o r s' ts' f' → unwinds o r s ts f
+pub record SameToDo (s : List OpenGroup) (ts : List Token) (f : Sum) (s' : List OpenGroup) (ts' : List Token) (f' : Sum) : Type 0 where
+  pub forth : (o : Sum) (r : List Token) → unwinds o r s ts f → unwinds o r s' ts' f'
+  pub back : (o : Sum) (r : List Token) → unwinds o r s' ts' f' → unwinds o r s ts f
 
 -- a group opens in a group
-opened_same : (j : Instr) (q : Option ℕ) (s : List OpenGroup) (a b : List Tok) (f : Sum) → (s ≡ [] → ⊥) → reads j a b → SameToDo s (LParen ∷ a) f (InFolded j q ∷ s) b (opened (suc (length s)) (suc (heads_in s)) f)
+opened_same : (j : InstructionModel) (q : Option ℕ) (s : List OpenGroup) (a b : List Token) (f : Sum) → (s ≡ [] → ⊥) → reads j a b → SameToDo s (LParen ∷ a) f (InFolded j q ∷ s) b (opened (suc (length s)) (suc (heads_in s)) f)
 opened_same j q [] a b f some h = absurd (some refl)
 opened_same j q (InFolded i p ∷ s) a b f some rj = record {
   forth = forth;
   back = λ o r (gs, m, l, (hs, n, l', u)). (Group j gs hs, n, (a, b, m, refl, rj, l, l'), u);
 }
   where
-    forth : (o : Sum) (r : List Tok) → unwinds o r (InFolded i p ∷ s) (LParen ∷ a) f → unwinds o r (InFolded j q ∷ (InFolded i p ∷ s)) b (opened (suc (suc (length s))) (suc (suc (heads_in s))) f)
+    forth : (o : Sum) (r : List Token) → unwinds o r (InFolded i p ∷ s) (LParen ∷ a) f → unwinds o r (InFolded j q ∷ (InFolded i p ∷ s)) b (opened (suc (suc (length s))) (suc (suc (heads_in s))) f)
     forth o r (NoGroup, m, l, u) = cc
     forth o r (Group k gs hs, m, l, u) = let one = same_group j k a b l.0 l.1 l.3 rj l.4 in rw (← one.0, ← one.1) (gs, l.2, l.5, (hs, m, l.6, u))
 opened_same j q (l ∷ s) a b f some h = record { forth = λ o r u. absurd u; back = λ o r u. absurd u.3 }
 
 -- a group closes
-closes_in : (i : Instr) (p : Option ℕ) (s : List OpenGroup) (m : List Tok) (f : Sum) → SameToDo (InFolded i p ∷ s) (RParen ∷ m) f s m (closed (length s) (heads_in s) i f)
+closes_in : (i : InstructionModel) (p : Option ℕ) (s : List OpenGroup) (m : List Token) (f : Sum) → SameToDo (InFolded i p ∷ s) (RParen ∷ m) f s m (closed (length s) (heads_in s) i f)
 closes_in i p s m f = record {
   forth = forth;
   back = λ o r u. (NoGroup, m, refl, u);
 }
   where
-    forth : (o : Sum) (r : List Tok) → unwinds o r (InFolded i p ∷ s) (RParen ∷ m) f → unwinds o r s m (closed (length s) (heads_in s) i f)
+    forth : (o : Sum) (r : List Token) → unwinds o r (InFolded i p ∷ s) (RParen ∷ m) f → unwinds o r s m (closed (length s) (heads_in s) i f)
     forth o r (NoGroup, n, l, u) = let e : n ≡ m = cc in rw e at u
     forth o r (Group k gs hs, n, l, u) = let e = l.3 in cc
 
 -- the loop can't finish if the next tokens neither open a group nor close one
-halts : (s : List OpenGroup) (ts : List Tok) (f : Sum) → (s ≡ [] → ⊥) → ((i : Instr) (a b : List Tok) → ts ≡ LParen ∷ a → reads i a b → ⊥) → ((i : Instr) (h : Option ℕ) (q : List OpenGroup) (d : List Tok) → s ≡ InFolded i h ∷ q → ts ≡ RParen ∷ d → ⊥)
-    → (o : Sum) (r : List Tok) → unwinds o r s ts f → ⊥
+halts : (s : List OpenGroup) (ts : List Token) (f : Sum) → (s ≡ [] → ⊥) → ((i : InstructionModel) (a b : List Token) → ts ≡ LParen ∷ a → reads i a b → ⊥) → ((i : InstructionModel) (h : Option ℕ) (q : List OpenGroup) (d : List Token) → s ≡ InFolded i h ∷ q → ts ≡ RParen ∷ d → ⊥)
+    → (o : Sum) (r : List Token) → unwinds o r s ts f → ⊥
 halts [] ts f some open_ close_ o r u = some refl
 halts (InFolded i p ∷ s) ts f some open_ close_ o r (NoGroup, m, l, u) = close_ i p s m refl l
 halts (InFolded i p ∷ s) ts f some open_ close_ o r (Group j gs hs, m, l, u) = open_ j l.0 l.1 l.3 l.4
@@ -143,7 +121,7 @@ folds k h (Group i gs hs) f p q =
 -- ---- one group
 
 -- the sum after a group, from the place after its instruction
-abbrev pub whole : Instr → Groups → Sum → Sum
+abbrev pub whole : InstructionModel → Groups → Sum → Sum
 whole i gs f = closed 0 0 i (fold 1 1 gs f)
 
 -- the sum after the first instruction: one group is open, and no turn was counted
@@ -151,17 +129,17 @@ abbrev pub start : ℕ → ℕ → ℕ → Sum
 start t p h = record { instrs = []; turns = t; peak = max p 1; held = max h 1 }
 
 -- The remaining work is the work of the group at the front of ts, which started with the sum g.
-pub record Unwinding (ts : List Tok) (g : Sum) (s : List OpenGroup) (u : List Tok) (f : Sum) : Type 0 where
-  pub forth : (i : Instr) (gs : Groups) (r : List Tok) → is_folded i gs ts r → unwinds (whole i gs g) r s u f
-  pub back : (o : Sum) (r : List Tok) → unwinds o r s u f → (i : Instr) × (gs : Groups) × is_folded i gs ts r × (o ≡ whole i gs g)
+pub record Unwinding (ts : List Token) (g : Sum) (s : List OpenGroup) (u : List Token) (f : Sum) : Type 0 where
+  pub forth : (i : InstructionModel) (gs : Groups) (r : List Token) → is_folded i gs ts r → unwinds (whole i gs g) r s u f
+  pub back : (o : Sum) (r : List Token) → unwinds o r s u f → (i : InstructionModel) × (gs : Groups) × is_folded i gs ts r × (o ≡ whole i gs g)
 
-whole_is : (i : Instr) (gs : Groups) (t p h : ℕ)
+whole_is : (i : InstructionModel) (gs : Groups) (t p h : ℕ)
     → ((whole i gs (start t p h)).instrs ≡ unfolded_groups gs ++ i ∷ []) × (t + suc (count_groups gs) ≤ (whole i gs (start t p h)).turns) × (suc (depth_groups gs) ≤ (whole i gs (start t p h)).peak) × ((whole i gs (start t p h)).held ≡ max h (suc (depth_groups gs)))
-whole_is i gs t p h = let a = folds 1 1 gs (start t p h) (omega arith) (omega arith) in (ap (λ (l : List Instr). l ++ i ∷ []) a.0, omega (arith, a.1), omega (arith, a.2), omega (arith, a.3))
+whole_is i gs t p h = let a = folds 1 1 gs (start t p h) (omega arith) (omega arith) in (ap (λ (l : List InstructionModel). l ++ i ∷ []) a.0, omega (arith, a.1), omega (arith, a.2), omega (arith, a.3))
 
-begins : (i : Instr) (p : Option ℕ) (ts a b : List Tok) (g : Sum) → ts ≡ LParen ∷ a → reads i a b → Unwinding ts g (InFolded i p ∷ []) b g
+begins : (i : InstructionModel) (p : Option ℕ) (ts a b : List Token) (g : Sum) → ts ≡ LParen ∷ a → reads i a b → Unwinding ts g (InFolded i p ∷ []) b g
 begins i p ts a b g e ri = record {
-  forth = λ j gs r (a', b', e', rj, l). (let one = same_group i j a b a' b' (sym e ∙ e') ri rj in (gs, r, rw one.1 at l, (refl, ap (λ (x : Instr). whole x gs g) (sym one.0))));
+  forth = λ j gs r (a', b', e', rj, l). (let one = same_group i j a b a' b' (sym e ∙ e') ri rj in (gs, r, rw one.1 at l, (refl, ap (λ (x : InstructionModel). whole x gs g) (sym one.0))));
   back = λ o r (gs, m, l, (em, ef)). (i, gs, (a, b, e, ri, rw em at l), sym ef);
 }
 
@@ -183,7 +161,7 @@ Unhinted [] = Unit {0}
 Unhinted (InFolded i h ∷ s) = (h ≡ None) × Unhinted s
 Unhinted (l ∷ s) = ⊥
 
-pub innermost : (s : List OpenGroup) → Unhinted s → (s ≡ [] → ⊥) → (i : Instr) × (h : Option ℕ) × (q : List OpenGroup) × (s ≡ InFolded i h ∷ q)
+pub innermost : (s : List OpenGroup) → Unhinted s → (s ≡ [] → ⊥) → (i : InstructionModel) × (h : Option ℕ) × (q : List OpenGroup) × (s ≡ InFolded i h ∷ q)
 innermost [] u some = absurd (some refl)
 innermost (InFolded i h ∷ s) u some = (i, h, s, refl)
 innermost (l ∷ s) u some = absurd u
@@ -200,20 +178,20 @@ pub record Going (a : State) (s : List OpenGroup) (f : Flat) (b : State) : Type 
   pub balanced : length s + closes a.left + opens b.left ≡ opens a.left + closes b.left
   pub settings : SameSettings a b
 
-abbrev pub sum : List Instr → ℕ → ℕ → ℕ → Sum
+abbrev pub sum : List InstructionModel → ℕ → ℕ → ℕ → Sum
 sum x t p h = record { instrs = x; turns = t; peak = p; held = h }
 
 -- ---- a turn
 
 -- a turn leads from the groups s, the tokens ts and the output f to s', us and f'
-pub record Stepped (s s' : List OpenGroup) (ts us : List Tok) (f f' : Flat) : Type 0 where
+pub record Stepped (s s' : List OpenGroup) (ts us : List Token) (f f' : Flat) : Type 0 where
   pub same : (t p h : ℕ) → SameToDo s ts (sum f.instrs t p h) s' us (sum f'.instrs (t + 1) (max p (length s')) (max h (heads_in s')))
   pub balanced : length s' + closes ts + opens us ≡ length s + opens ts + closes us
   pub shorter : length us < length ts
   pub hints : Unhinted s → f.hints ≡ [] → (f'.hints ≡ []) × Unhinted s'
   pub spans : (keeps : Bool) → Spanned keeps f → Spanned keeps f'
 
-steps : (s s' : List OpenGroup) (ts us : List Tok) (f f' : Flat) → (s ≡ [] → ⊥) → Opens (group_state s ts f) (group_state s' us f') ⊎ Closes (group_state s ts f) (group_state s' us f') → Stepped s s' ts us f f'
+steps : (s s' : List OpenGroup) (ts us : List Token) (f f' : Flat) → (s ≡ [] → ⊥) → Opens (group_state s ts f) (group_state s' us f') ⊎ Closes (group_state s ts f) (group_state s' us f') → Stepped s s' ts us f f'
 steps s s' ts us f f' some (inl (i, a, e, h, l, o)) =
     rw (e, l, o) (record { same = λ t p n. opened_same i None s a us (sum f.instrs t p n) some h; balanced = omega (arith, reads_balanced i a us h); shorter = omega (arith, reads_shorter i a us h); hints = λ w e. (e, (refl, w)); spans = λ k e. e })
 steps s s' ts us f f' some (inr (i, h, l, e, o)) =
@@ -239,7 +217,7 @@ going_on a b t u v w s s' f f' k h et ek ev eh ew = rw (et, ew, ev, ek, eh) (λ 
 
 -- ---- after the first instruction
 
-pub going_begins : (a o t v w : State) (i : Instr) (s : List OpenGroup) (f : Flat) (k h : ℕ) → s ≡ InFolded i None ∷ [] → f ≡ no_output a.tracks → k ≡ length s → v ≡ record t { peak = max t.peak k } → h ≡ heads_in s → w ≡ record v { held = max v.held h }
+pub going_begins : (a o t v w : State) (i : InstructionModel) (s : List OpenGroup) (f : Flat) (k h : ℕ) → s ≡ InFolded i None ∷ [] → f ≡ no_output a.tracks → k ≡ length s → v ≡ record t { peak = max t.peak k } → h ≡ heads_in s → w ≡ record v { held = max v.held h }
     → a.left ≡ LParen ∷ o.left → Carries a o → Quiet a o → SameSettings a o → reads i o.left t.left → Carries o t → Stays o t → SameSettings o t → Carries v w → Going a s f w
 going_begins a o t v w i s f k h es ef ek ev eh ew = rw (ew, ev, ek, eh, es, ef) (λ e co qo ko ri ct st kt cw.
     let balanced : 1 + closes a.left + opens t.left ≡ opens a.left + closes t.left = omega (arith, reads_balanced i o.left t.left ri, ap opens e, ap closes e) in
@@ -283,7 +261,7 @@ going_ends a b s e g none =
 
 pub folded_found : (a b : State) (e : Expression) → IsFolded a b e → folded_reads a.left ≡ Some (expression_view e, b.left)
 folded_found a b e x =
-    read_folded x.instr x.within a.left b.left x.listed ∙ ap (λ (v : Expr). some_of (v, b.left)) (sym x.value)
+    read_folded x.instr x.within a.left b.left x.listed ∙ ap (λ (v : ExpressionModel). some_of (v, b.left)) (sym x.value)
 
 -- a refusal adds at most one turn
 pub refused_first : (a o b : State) → Carries a o → o.turns ≡ a.turns → Carries o b → b.turns ≡ o.turns → b.turns + a.taken ≤ a.turns + b.taken + 1

@@ -1,21 +1,18 @@
 -- Heights of a stack, and taken tokens.
-use Rattle.std.specs.Prelude.{max, length}
-use Rattle.std.proofs.Common.{◌≡◌, ℕ, ◌+◌, ◌≤◌, ◌<◌, List, [], ◌∷◌, ap, arith}
-use Rattle.wat_tokens.specs.Token.{Tok, LParen, RParen}
-use Rattle.wat_tokens.specs.Parens.{opens, closes, rise, nest}
-use Rattle.wat_tokens.specs.Laws.Parens.{opens-append, closes-append}
-use Rattle.wat_tokens.specs.State.{State}
-use Rattle.wat_tokens.specs.Counts.{Counts, Carries}
+use Rattle.std.proofs.Common.{max, length, ◌≡◌, ℕ, ◌+◌, ◌≤◌, ◌<◌, List, [], ◌∷◌, ap, arith}
+use Rattle.wat_expr.specs.Prelude.{Token, LParen, RParen, opens, closes, opens-append, closes-append, State, Carries}
+use Rattle.wat_tokens.specs.Parens.{rise, nest}
+use Rattle.wat_tokens.specs.Counts.{Counts}
 use Rattle.wat_tokens.specs.Laws.Counts.{carried, carries_of, counts_within}
 
 -- the excess of `(` over `)` is at most `rise`, and `rise` is at most `nest`
-rises : (c : List Tok) → opens c ≤ closes c + rise c
+rises : (c : List Token) → opens c ≤ closes c + rise c
 rises [] = omega arith
 rises (LParen ∷ c) = omega (arith, rises c)
 rises (RParen ∷ c) = omega (arith, rises c)
 rises (_ ∷ c) = rises c
 
-nests : (c : List Tok) → rise c ≤ nest c
+nests : (c : List Token) → rise c ≤ nest c
 nests [] = omega arith
 nests (x ∷ c) = omega arith
 

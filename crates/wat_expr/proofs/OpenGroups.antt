@@ -1,14 +1,13 @@
 -- The open groups have the same numbers as their stored lists.
-use Rattle.std.proofs.Common.{◌≡◌, ◌<◌, suc, List, [], ◌∷◌, length, Some, refl, ap, ◌∙◌, arith}
-use Rattle.std.proofs.lemmas.List.{length-reverse, length-map}
-use Rattle.std.specs.Prelude.{map, reverse}
-use Rattle.wat_instr.specs.Instruction.{Instr, Instruction, instruction_view}
+use Rattle.std.proofs.Common.{reverse, ◌≡◌, ◌<◌, suc, List, [], ◌∷◌, length, Some, refl, ap, ◌∙◌, arith, map}
+use Rattle.std.proofs.lemmas.List.{length-reverse}
+use Rattle.wat_expr.specs.Prelude.{length-map, InstructionModel, Instruction, instruction_view, OpenGroup, heads_in, open_groups}
+use Rattle.wat_expr.specs.OpenGroups.{EachHolds, TopIs}
 use Rattle.wat_expr.specs.declared.open_groups.Kind.{Kind}
-use Rattle.wat_expr.specs.declared.open_groups.Kind.TheVariants as kind
 use Rattle.wat_expr.specs.declared.open_groups.Mark.{Mark}
-use Rattle.wat_expr.specs.OpenGroups.{OpenGroup, heads_in, open_groups, EachHolds, TopIs}
+use Rattle.wat_expr.specs.declared.open_groups.Kind.TheVariants as kind
 
-kept_as : (ks : List Kind) (is : List Instr) (ms : List Mark) → EachHolds ks is ms → (length (open_groups ks is ms) ≡ length ks) × (heads_in (open_groups ks is ms) ≡ length is)
+kept_as : (ks : List Kind) (is : List InstructionModel) (ms : List Mark) → EachHolds ks is ms → (length (open_groups ks is ms) ≡ length ks) × (heads_in (open_groups ks is ms) ≡ length is)
 kept_as [] is ms e = (refl, e.0)
 kept_as (kind.Folded ∷ ks) (i ∷ is) (m ∷ ms) e = let a = kept_as ks is ms (omega (arith, e.0), omega (arith, e.1)) in (ap suc a.0, ap suc a.1)
 kept_as (kind.Folded ∷ ks) [] ms e = absurd (omega (arith, e.0))
@@ -22,7 +21,7 @@ kept_as (kind.AfterElse ∷ ks) is ms e = let a = kept_as ks is ms e in (ap suc 
 kept_as (kind.Arm ∷ ks) is ms e = let a = kept_as ks is ms e in (ap suc a.0, a.1)
 
 -- the instructions as contracts see them
-abbrev pub seen : List Instruction → List Instr
+abbrev pub seen : List Instruction → List InstructionModel
 seen hs = map instruction_view hs
 
 pub height_is : (ks : List Kind) (hs : List Instruction) (ms : List Mark) → EachHolds (reverse ks) (reverse (seen hs)) (reverse ms) → length (open_groups (reverse ks) (reverse (seen hs)) (reverse ms)) ≡ length ks

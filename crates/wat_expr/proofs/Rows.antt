@@ -1,86 +1,60 @@
 -- Texts as tokens: they spell the expressions of the facts.
-use Rattle.std.proofs.Common.{◌≡◌, ℕ, List, [], ◌∷◌, Some, None, refl, subst, sym, arith}
-use Rattle.std.specs.Prelude.{codes, pos}
-use Rattle.std.proofs.lemmas.List.{append-nil}
-use Rattle.wat_tokens.specs.ManySpells.{many_at, many_reads}
-use Rattle.wat_tokens.specs.NameAnnotation.{name_annotation}
-use Rattle.wat_tokens.specs.Number.{read}
-use Rattle.wat_tokens.specs.Spelled.{Spelled}
-use Rattle.wat_tokens.specs.Index.{number}
-use Rattle.wat_tokens.specs.Token.{Tok, Keyword, Integer}
-use Rattle.wat_types.specs.Function.{function_groups}
-use Rattle.wat_types.specs.FunctionSpells.{func_groups}
-use Rattle.wat_types.specs.Label.{label}
-use Rattle.wat_types.specs.Use.{type_use}
-use Rattle.wat_operands.specs.Block.{block_type}
-use Rattle.wat_mnemonics.specs.Ops.{op_word}
-use Rattle.wat_mnemonics.specs.declared.op.Op.{Op}
-use Rattle.wat_mnemonics.specs.declared.op.Op.TheVariants as word
-use Rattle.wat_mnemonics.specs.declared.indexed.BlockOp.{BlockOp}
-use Rattle.wat_mnemonics.specs.declared.indexed.BlockOp.TheVariants as block
-use Rattle.wat_mnemonics.specs.declared.indexed.IndexedOp.{IndexedOp}
-use Rattle.wat_mnemonics.specs.declared.indexed.IndexedOp.TheVariants as indexed
-use Rattle.wat_mnemonics.specs.declared.indexed.LabelOp.{LabelOp}
-use Rattle.wat_mnemonics.specs.declared.indexed.LabelOp.TheVariants as between
-use Rattle.wat_mnemonics.specs.declared.scalar.ScalarOp.{ScalarOp}
-use Rattle.wat_mnemonics.specs.declared.scalar.ScalarOp.TheVariants as scalar
-use Rattle.wat_instr.specs.Instruction.{Instr, instr_of}
-use Rattle.wat_instr.specs.Laws.First.{instruction_read}
-use Rattle.wat_instr.specs.Operand.{Operand, operand}
-use Rattle.wat_instr.specs.Operand as operands
-use Rattle.wat_expr.specs.Expression.{value_of}
-use Rattle.wat_expr.specs.ExpressionProduction.{expression}
-use Rattle.wat_expr.specs.Folded.{Groups, NoGroup, Group, is_folded, folded_value}
-use Rattle.wat_expr.specs.FoldedProduction.{folded_instruction}
-use Rattle.wat_expr.specs.Items.{Items, Nil, Plain, Folded, Block, IfThen, IfElse, Hinted, lists, reads}
-use Rattle.wat_expr.specs.Laws.Facts.{reads_of}
+use Rattle.std.proofs.Common.{◌≡◌, ℕ, List, [], ◌∷◌, Some, None, refl, subst, sym, arith, codes, pos}
+use Rattle.wat_instr.specs.Prelude.{BlockOp, IndexedOp, ScalarOp}
+use Rattle.wat_expr.specs.Prelude.{append-nil, many_at, many_reads, name_annotation, read, Spelled, number, Token, Keyword, Integer, function_groups, func_groups, label, type_use, block_type, op_word, Op, LabelOp, InstructionModel, instr_of, instruction_read, Operand, operand, value_of, expression, Groups, NoGroup, Group, is_folded, folded_value, folded_instruction, Items, Nil, Plain, Folded, Block, IfThen, IfElse, Hinted, lists, reads, reads_of}
 use Rattle.wat_expr.specs.Rows.{const_of, plain_of, indexed_of, opening_of, closing_of, OperandsFirst, BothArms, HintBehindOperand, BlockInFold, HintBehindBlock}
+use Rattle.wat_mnemonics.specs.declared.op.Op.TheVariants as word
+use Rattle.wat_mnemonics.specs.declared.indexed.BlockOp.TheVariants as block
+use Rattle.wat_mnemonics.specs.declared.indexed.IndexedOp.TheVariants as indexed
+use Rattle.wat_mnemonics.specs.declared.indexed.LabelOp.TheVariants as between
+use Rattle.wat_mnemonics.specs.declared.scalar.ScalarOp.TheVariants as scalar
+use Rattle.wat_instr.specs.Operand as operands
 
 -- ---- instructions before any rest
 
-front : (h : Op) (w : List ℕ) → op_word h ≡ w → (o : Operand) (t r : List Tok)
+front : (h : Op) (w : List ℕ) → op_word h ≡ w → (o : Operand) (t r : List Token)
     → (operand h).reads t ≡ Some (o, r) → reads (instr_of h o) (Keyword w ∷ t) r
 front h w k o t r e = reads_of (instr_of h o) (Keyword w ∷ t) r (instruction_read h w k o t r e)
 
 -- an instruction without an operand
-plain : (op : ScalarOp) (w : List ℕ) → op_word (word.Scalar op) ≡ w → (r : List Tok)
+plain : (op : ScalarOp) (w : List ℕ) → op_word (word.Scalar op) ≡ w → (r : List Token)
     → reads (plain_of op) (Keyword w ∷ r) r
 unfolding operand
 plain op w k r = front (word.Scalar op) w k operands.nothing r r refl
 
 -- `i32.const` and a number
-const : (d : List ℕ) (n : ℕ) (r : List Tok)
+const : (d : List ℕ) (n : ℕ) (r : List Token)
     → (operand word.i32_const).reads (Integer d ∷ r) ≡ Some (operands.integer (pos n), r)
     → reads (const_of n) (Keyword (codes "i32.const") ∷ Integer d ∷ r) r
 const d n r e = front word.i32_const (codes "i32.const") refl (operands.integer (pos n)) (Integer d ∷ r) r e
 
 -- a mnemonic and the index 0
-indexed_by_0 : (op : IndexedOp) (w : List ℕ) → op_word (word.Indexed op) ≡ w → (r : List Tok)
+indexed_by_0 : (op : IndexedOp) (w : List ℕ) → op_word (word.Indexed op) ≡ w → (r : List Token)
     → reads (indexed_of op 0) (Keyword w ∷ Integer (codes "0") ∷ r) r
 unfolding operand read
 indexed_by_0 op w k r = front (word.Indexed op) w k (operands.one_index (number 0)) (Integer (codes "0") ∷ r) r refl
 
 -- `block` or `if` before tokens that begin no label and no type
-opening : (op : BlockOp) (w : List ℕ) → op_word (word.Block op) ≡ w → (r : List Tok)
+opening : (op : BlockOp) (w : List ℕ) → op_word (word.Block op) ≡ w → (r : List Token)
     → (operand (word.Block op)).reads r ≡ Some ((opening_of op).operand, r)
     → reads (opening_of op) (Keyword w ∷ r) r
 opening op w k r e = front (word.Block op) w k (opening_of op).operand r r e
 
 -- `else` or `end` before tokens that begin no label
-closing : (op : LabelOp) (w : List ℕ) → op_word (word.Label op) ≡ w → (r : List Tok)
+closing : (op : LabelOp) (w : List ℕ) → op_word (word.Label op) ≡ w → (r : List Token)
     → (operand (word.Label op)).reads r ≡ Some (operands.label None, r)
     → reads (closing_of op) (Keyword w ∷ r) r
 closing op w k r e = front (word.Label op) w k (operands.label None) r r e
 
 -- ---- from items and groups to spelled values
 
-listed : (xs : Items) (ts : List Tok) → lists xs ts [] → Spelled expression ts (value_of xs)
+listed : (xs : Items) (ts : List Token) → lists xs ts [] → Spelled expression ts (value_of xs)
 unfolding expression
-listed xs ts l = (ts, sym (append-nil ts), (xs, subst (λ (u : List Tok). lists xs u []) (sym (append-nil ts)) l, refl, refl))
+listed xs ts l = (ts, sym (append-nil ts), (xs, subst (λ (u : List Token). lists xs u []) (sym (append-nil ts)) l, refl, refl))
 
-folded : (i : Instr) (gs : Groups) (ts : List Tok) → is_folded i gs ts [] → Spelled folded_instruction ts (folded_value i gs)
+folded : (i : InstructionModel) (gs : Groups) (ts : List Token) → is_folded i gs ts [] → Spelled folded_instruction ts (folded_value i gs)
 unfolding folded_instruction
-folded i gs ts l = (ts, sym (append-nil ts), (i, gs, subst (λ (u : List Tok). is_folded i gs u []) (sym (append-nil ts)) l, refl))
+folded i gs ts l = (ts, sym (append-nil ts), (i, gs, subst (λ (u : List Token). is_folded i gs u []) (sym (append-nil ts)) l, refl))
 
 -- ---- the facts
 

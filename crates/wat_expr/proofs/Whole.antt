@@ -1,35 +1,18 @@
 -- The invariant of the loop over the tokens of an expression, and its consequences at the end.
-use Rattle.std.specs.Prelude.{◌≢◌, max, map, if◌then◌else◌}
-use Rattle.std.proofs.Common.{◌≡◌, ℕ, ◌+◌, ◌≤◌, List, [], ◌∷◌, length, Option, Some, None, Bool, true, false, Result, Ok, Err, refl, sym, ap, subst, ◌∙◌, arith}
-use Rattle.std.proofs.lemmas.List.{length-map}
-use Rattle.wat_tokens.specs.Counts.{Carries, SameSettings, Stays}
-use Rattle.wat_tokens.specs.Error.{Error, Memory}
-use Rattle.wat_tokens.specs.Production.{Read}
-use Rattle.wat_tokens.specs.State.{State}
-use Rattle.wat_tokens.specs.Tests.{ends}
-use Rattle.wat_tokens.specs.Token.{Tok}
-use Rattle.wat_tokens.specs.Laws.Production.{by_read, some_is}
-use Rattle.wat_tokens.specs.Laws.Filled.{filled_before, filled_behind}
+use Rattle.std.proofs.Common.{◌≢◌, max, map, if◌then◌else◌, ◌≡◌, ℕ, ◌+◌, ◌≤◌, List, [], ◌∷◌, length, Option, Some, None, Bool, true, false, Result, Ok, Err, refl, sym, ap, subst, ◌∙◌, arith}
+use Rattle.wat_expr.specs.Prelude.{length-map, Carries, SameSettings, Stays, Error, Memory, Read, State, ends, Token, by_read, some_is, filled_behind, Gives, NotHeapless, owning, no_items, instruction_view, ExpressionModel, expression_view, heapless_expression, value_of, SpansAre, flat, no_output, Items, Nil, Plain, Folded, Block, IfThen, IfElse, Hinted, lists, unfolded, heads_in, TalliedFlat, emit, Fits, Finishes, Tallies, with_tallies, state_with, Balanced, Turn, Stuck, lists_between, stops_end, expression}
+use Rattle.wat_tokens.specs.Laws.Filled.{filled_before}
+use Rattle.wat_tokens.specs.Parses.{Accepts}
+use Rattle.wat_expr.specs.Progress.{TalliedState, Same}
 use Rattle.wat_tokens.specs.Laws.Error.{by_fault}
-use Rattle.wat_tokens.specs.Parses.{Gives, Accepts, NotBare}
-use Rattle.wat_tokens.specs.Views.{owning, no_items}
-use Rattle.wat_instr.specs.Instruction.{instruction_view}
 use Rattle.wat_expr.specs.declared.expression.Expression.{Expression}
 use Rattle.wat_expr.specs.declared.reader.Reader.{Reader}
-use Rattle.wat_expr.specs.Expression.{Expr, expression_view, bare_expression, value_of, SpansAre}
-use Rattle.wat_expr.specs.Flat.{flat, no_output}
-use Rattle.wat_expr.specs.Items.{Items, Nil, Plain, Folded, Block, IfThen, IfElse, Hinted, lists, unfolded}
-use Rattle.wat_expr.specs.OpenGroups.{heads_in}
-use Rattle.wat_expr.specs.Listed.{IsListed}
-use Rattle.wat_expr.specs.Progress.{TalliedFlat, emit, Fits, TalliedState, Finishes, Same, Tallies, with_tallies, state_with, Balanced, Turn, Stuck}
+use Rattle.wat_expr.specs.ItemsRead.{IsListed}
 use Rattle.wat_expr.specs.Turned.{stand}
-use Rattle.wat_expr.proofs.FoldedLoop.{not_bare_of}
+use Rattle.wat_expr.proofs.FoldedLoop.{not_heapless_of}
 use Rattle.wat_expr.proofs.Flatten.{flat_out, Spanned}
 use Rattle.wat_expr.proofs.Heights.{carries_height, taken_one, refused_turns}
 use Rattle.wat_expr.proofs.Turns.{any_items, unpending, at}
-use Rattle.wat_expr.specs.Laws.Facts.{lists_between}
-use Rattle.wat_expr.specs.Laws.Reading.{stops_end}
-use Rattle.wat_expr.specs.ExpressionProduction.{expression}
 
 -- the counters, with n items
 abbrev pub counters : ℕ → State → Tallies
@@ -90,8 +73,8 @@ goes_on a b t u v x r r2 k h tick ek eh ev ex = rw (tick, ex, ev, ek, eh) (λ w 
 -- ---- tokens that list no items
 
 -- no prefix of ts lists items up to the end
-abbrev pub Unlisted : List Tok → Type 0
-Unlisted ts = (xs : Items) (r : List Tok) → lists xs ts r → ends r ≡ true → ⊥
+abbrev pub Unlisted : List Token → Type 0
+Unlisted ts = (xs : Items) (r : List Token) → lists xs ts r → ends r ≡ true → ⊥
 
 not_listed : (a b : State) (r : Reader) → Reading a b r → Stuck (stand r b.left) → Unlisted a.left
 not_listed a b r w stuck xs u l e = stuck (counters w.items b) (emit 0 0 None xs (first a)) u (w.same.forth (emit 0 0 None xs (first a)) u (xs, u, l, tt, any_items xs, (e, refl, refl)))
@@ -134,14 +117,14 @@ listed a b r w es ep e = let same = rw (es, ep) at w.same in finished a b r w.it
 -- ---- consequences for the production
 
 -- listed items are read
-pub reads_listed : (xs : Items) (ts r : List Tok) → lists xs ts r → ends r ≡ true → expression.reads ts ≡ Some (value_of xs, r)
+pub reads_listed : (xs : Items) (ts r : List Token) → lists xs ts r → ends r ≡ true → expression.reads ts ≡ Some (value_of xs, r)
 unfolding expression
 reads_listed xs ts r l e =
     let b = lists_between xs ts r l in
     ap expression.reads b.is ∙ expression.complete (value_of xs) b.front r (xs, rw b.is at l, e, refl)
 
 -- if no items are listed, nothing is read
-pub reads_nothing_listed : (ts : List Tok) → Unlisted ts → expression.reads ts ≡ None
+pub reads_nothing_listed : (ts : List Token) → Unlisted ts → expression.reads ts ≡ None
 unfolding expression
 reads_nothing_listed ts never =
     by_read (expression.reads ts)
@@ -149,7 +132,7 @@ reads_nothing_listed ts never =
     (λ e. e)
 
 -- items after a hint, and items of at least one token, have an instruction
-some_listed : (p : Option ℕ) (xs : Items) (ts r : List Tok) → Fits p xs → lists xs ts r → (p ≡ None → ts ≡ r → ⊥) → no_items (unfolded xs) ≡ false
+some_listed : (p : Option ℕ) (xs : Items) (ts r : List Token) → Fits p xs → lists xs ts r → (p ≡ None → ts ≡ r → ⊥) → no_items (unfolded xs) ≡ false
 some_listed None Nil ts r f l n = absurd (n refl l)
 some_listed (Some v) Nil ts r f l n = absurd f
 some_listed p (Plain i xs) ts r f l n = refl
@@ -160,41 +143,41 @@ some_listed p (IfElse i ops th el xs) ts r f l n = filled_before _ (unfolded xs)
 some_listed None (Hinted v xs) ts r f l n = some_listed (Some v) xs l.0 r l.3 l.4 (λ e q. cc)
 some_listed (Some u) (Hinted v xs) ts r f l n = absurd f
 
--- if the tokens do not end at once, they spell no bare value
-pub not_bare : (ts : List Tok) → (ends ts ≡ true → ⊥) → NotBare bare_expression (expression.reads ts)
+-- if the tokens do not end at once, they spell no heapless value
+pub not_heapless : (ts : List Token) → (ends ts ≡ true → ⊥) → NotHeapless heapless_expression (expression.reads ts)
 unfolding expression
-not_bare ts more =
-    not_bare_of (expression.reads ts)
+not_heapless ts more =
+    not_heapless_of (expression.reads ts)
     (λ y e. (let f = expression.sound ts y e in
     let l = f.2 in
     let k = some_listed None l.0 ts y.1 tt (rw (← f.1) at l.1) (λ p q. more (ap ends q ∙ l.2)) in
-    ap (λ (v : Expr). no_items v.instrs) l.3 ∙ k))
+    ap (λ (v : ExpressionModel). no_items v.instrs) l.3 ∙ k))
 
 -- ---- the exits
 
 pub found : (a b : State) (x : Expression) → IsListed a b x → expression.reads a.left ≡ Some (expression_view x, b.left)
-found a b x l = reads_listed l.items a.left b.left l.listed l.ended ∙ ap (λ (v : Expr). Some (v, b.left)) (sym l.value)
+found a b x l = reads_listed l.items a.left b.left l.listed l.ended ∙ ap (λ (v : ExpressionModel). Some (v, b.left)) (sym l.value)
 
 -- a turn was refused
 pub refused : (a b t : State) (r : Reader) (e : Error) → Reading a b r → t ≡ record b { turns = b.turns + 1 } → (r.open_groups ≡ [] → ends b.left ≡ true → ⊥) → (e.fault ≢ Memory → Stuck (stand r t.left))
-    → (e.fault ≢ Memory → expression.reads a.left ≡ None) × (e.fault ≡ Memory → NotBare bare_expression (expression.reads a.left))
+    → (e.fault ≢ Memory → expression.reads a.left ≡ None) × (e.fault ≡ Memory → NotHeapless heapless_expression (expression.reads a.left))
 refused a b t r e w tick undone stuck = (
   (λ n. reads_nothing_listed a.left (not_listed a b r w (rw (ap (λ (s : State). s.left) tick) at (stuck n)))),
-  (λ m. (not_bare a.left (λ k. (let i = w.idle k in undone i.0 (ap ends i.1 ∙ k))))),
+  (λ m. (not_heapless a.left (λ k. (let i = w.idle k in undone i.0 (ap ends i.1 ∙ k))))),
 )
 
--- the value that the tokens spell is returned, or memory ran out and the value isn't bare
-pub read_accepted : (res : Result Expression Error) (read : Read Expr) (left : List Tok) → Gives (owning expression_view bare_expression) res read left
-    → (v : Expr) (r : List Tok) → read ≡ Some (v, r) → Accepts (owning expression_view bare_expression) res v left r
+-- the value that the tokens spell is returned, or memory ran out and the value isn't heapless
+pub read_accepted : (res : Result Expression Error) (read : Read ExpressionModel) (left : List Token) → Gives (owning expression_view heapless_expression) res read left
+    → (v : ExpressionModel) (r : List Token) → read ≡ Some (v, r) → Accepts (owning expression_view heapless_expression) res v left r
 read_accepted (Ok x) read left g v r e =
     let s = some_is (expression_view x, left) (v, r) (sym g ∙ e) in
-    (ap (λ (y : Expr × List Tok). y.0) s, ap (λ (y : Expr × List Tok). y.1) s)
+    (ap (λ (y : ExpressionModel × List Token). y.0) s, ap (λ (y : ExpressionModel × List Token). y.1) s)
 read_accepted (Err f) read left g v r e =
     by_fault f.fault
     (λ m. (m, rw e at (g.1 m)))
     (λ not. (let none : read ≡ None = g.0 not in cc))
 
 -- the value of listed items is returned, or memory ran out
-pub accepted : (res : Result Expression Error) (ts left : List Tok) → Gives (owning expression_view bare_expression) res (expression.reads ts) left
-    → (xs : Items) (r : List Tok) → lists xs ts r → ends r ≡ true → Accepts (owning expression_view bare_expression) res (value_of xs) left r
+pub accepted : (res : Result Expression Error) (ts left : List Token) → Gives (owning expression_view heapless_expression) res (expression.reads ts) left
+    → (xs : Items) (r : List Token) → lists xs ts r → ends r ≡ true → Accepts (owning expression_view heapless_expression) res (value_of xs) left r
 accepted res ts left g xs r l e = read_accepted res (expression.reads ts) left g (value_of xs) r (reads_listed xs ts r l e)

@@ -1,12 +1,10 @@
 -- The effect of the end of a group.
-use Rattle.std.specs.Prelude.{◌≡◌, List, [], ◌∷◌, ◌++◌, Result, Ok, Err}
-use Rattle.std.specs.Prelude.{MatchResult}
-use Rattle.wat_tokens.specs.Error.{Error, Memory}
+use Rattle.std.specs.Prelude.{◌≡◌, List, [], ◌∷◌, ◌++◌, Result, Ok, Err, MatchResult}
+use Rattle.wat_instr.specs.Prelude.{Error, Memory, Instruction, instruction_view}
 use Rattle.wat_expr.specs.Flat.{Flat, push}
 use Rattle.wat_expr.specs.OpenGroups.{OpenGroup, InFolded, InIf, kind_of}
 use Rattle.wat_expr.specs.declared.open_groups.Kind.{Kind}
 use Rattle.wat_expr.specs.declared.open_groups.Mark.{Mark}
-use Rattle.wat_instr.specs.Instruction.{Instruction, instruction_view}
 
 -- if an instruction waits in the group, it is appended to the output
 abbrev pub released : OpenGroup → Flat → Flat

@@ -1,25 +1,20 @@
 -- Expressions as contracts see them, and the tokens that spell an expression.
-use Rattle.std.specs.Prelude.{◌≡◌, [], ◌∷◌, ◌++◌, ℕ, Bool, true, false, List, length, map, Option}
-use Rattle.std.specs.Prelude.{Some, None, Vec}
+use Rattle.std.specs.Prelude.{◌≡◌, [], ◌∷◌, ◌++◌, ℕ, Bool, true, false, List, length, map, Option, Some, None, Vec}
 use Rattle.std.specs.Option.{option_map}
-use Rattle.std.specs.declared.alloc.Global.{Global}
-use Rattle.wat_tokens.specs.Tests.{ends}
-use Rattle.wat_tokens.specs.Token.{Tok}
-use Rattle.wat_tokens.specs.Views.{no_items}
-use Rattle.wat_instr.specs.Instruction.{Instr, instruction_view}
+use Rattle.wat_instr.specs.Prelude.{Global, ends, Token, no_items, InstructionModel, instruction_view}
 use Rattle.wat_expr.specs.declared.expression.BranchHint.{BranchHint}
 use Rattle.wat_expr.specs.declared.expression.Expression.{Expression}
 use Rattle.wat_expr.specs.Items.{Items, lists, unfolded, hints}
 
 -- the instructions, and each hint as an index and a value
-pub record Expr : Type 0 where
-  pub instrs : List Instr
+pub record ExpressionModel : Type 0 where
+  pub instrs : List InstructionModel
   pub hints : List (ℕ × ℕ)
 
 abbrev pub hint_view : BranchHint → ℕ × ℕ
 hint_view h = (h.instr_index, h.value)
 
-abbrev pub expression_view : Expression → Expr
+abbrev pub expression_view : Expression → ExpressionModel
 expression_view e =
     record {
       instrs = map instruction_view e.instrs.items;
@@ -27,16 +22,16 @@ expression_view e =
           e.branch_hints.items;
     }
 
-abbrev pub bare_expression : Expr → Bool
-bare_expression e = no_items e.instrs
+abbrev pub heapless_expression : ExpressionModel → Bool
+heapless_expression e = no_items e.instrs
 
 -- the expression of items
-abbrev pub value_of : Items → Expr
+abbrev pub value_of : Items → ExpressionModel
 value_of xs = record { instrs = unfolded xs; hints = hints xs 0 }
 
 -- The tokens c list items before the rest r, which is empty or begins with `)`. The expression has
 -- the unfolded instructions and the hints of these items.
-abbrev pub expression_spells : Expr → List Tok → List Tok → Type 0
+abbrev pub expression_spells : ExpressionModel → List Token → List Token → Type 0
 expression_spells e c r = (xs : Items) × lists xs (c ++ r) r × (ends r ≡ true) × (e ≡ value_of xs)
 
 -- if spans are kept, there is one span for each instruction; otherwise there are no spans

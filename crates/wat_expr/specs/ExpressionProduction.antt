@@ -1,14 +1,12 @@
 -- The production of an expression.
-use Rattle.wat_tokens.specs.Asks.{everything}
-use Rattle.wat_tokens.specs.Production.{Production}
-use Rattle.wat_expr.specs.Expression.{Expr, expression_spells}
+use Rattle.wat_instr.specs.Prelude.{everything, Production}
+use Rattle.wat_expr.specs.Expression.{ExpressionModel, expression_spells}
 use Rattle.wat_expr.specs.Reading.{expression_reads}
-use Rattle.wat_expr.specs.Laws.Reading.{expression_sound, expression_complete, expression_takes}
-use Rattle.wat_expr.specs.Laws.Reading.{expression_balanced}
+use Rattle.wat_expr.specs.Laws.Reading.{expression_sound, expression_complete, expression_takes, expression_balanced}
 use Rattle.wat_expr.specs.Laws.Moves.{expression_moves}
 
 -- items up to the end
-unfoldable pub expression : Production Expr
+unfoldable pub expression : Production ExpressionModel
 expression = record {
   spells = expression_spells;
   reads = expression_reads;

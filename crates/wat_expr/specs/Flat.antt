@@ -1,15 +1,13 @@
 -- The output of a loop.
-use Rattle.std.specs.Prelude.{ℕ, suc, Bool, List, [], ◌∷◌, ◌++◌, length, map, Option, Some, None}
-use Rattle.std.specs.Prelude.{Vec, if◌then◌else◌}
-use Rattle.std.specs.declared.alloc.Global.{Global}
-use Rattle.wat_instr.specs.Instruction.{Instr, instruction_view}
+use Rattle.std.specs.Prelude.{ℕ, suc, Bool, List, [], ◌∷◌, ◌++◌, length, map, Option, Some, None, Vec, if◌then◌else◌}
+use Rattle.wat_instr.specs.Prelude.{Global, InstructionModel, instruction_view}
 use Rattle.wat_expr.specs.declared.expression.Expression.{Expression}
 use Rattle.wat_expr.specs.Expression.{hint_view}
 use Rattle.wat_expr.specs.Items.{mark}
 
 -- the instructions, the hints, and the number of spans if spans are kept
 pub record Flat : Type 0 where
-  pub instrs : List Instr
+  pub instrs : List InstructionModel
   pub hints : List (ℕ × ℕ)
   pub spans : Option ℕ
 
@@ -34,7 +32,7 @@ one_more (Some n) = Some (suc n)
 one_more None = None
 
 -- an instruction at the end, with the hint directly before its item
-abbrev pub push : Option ℕ → Instr → Flat → Flat
+abbrev pub push : Option ℕ → InstructionModel → Flat → Flat
 push p i f =
     record {
       instrs = f.instrs ++ i ∷ [];

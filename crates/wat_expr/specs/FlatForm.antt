@@ -1,30 +1,27 @@
 -- The flat form of listed items: the own tokens of their instructions, without groups and hints.
-use Rattle.std.specs.Prelude.{◌≡◌, ℕ, ◌+◌, ◌-◌, Bool, false, if◌then◌else◌, List, [], ◌∷◌, ◌++◌}
-use Rattle.std.specs.Prelude.{length, take, codes}
-use Rattle.wat_tokens.specs.Token.{Tok, LParen, RParen, String}
-use Rattle.wat_instr.specs.Instruction.{Instr}
-use Rattle.wat_expr.specs.Expression.{Expr}
-use Rattle.wat_expr.specs.Items.{Items, Nil, Plain, Folded, Block, IfThen, IfElse, Hinted, Only}
-use Rattle.wat_expr.specs.Items.{lists, keyword, hint_name}
+use Rattle.std.specs.Prelude.{◌≡◌, ℕ, ◌+◌, ◌-◌, Bool, false, if◌then◌else◌, List, [], ◌∷◌, ◌++◌, length, take, codes}
+use Rattle.wat_instr.specs.Prelude.{Token, LParen, RParen, String, InstructionModel}
+use Rattle.wat_expr.specs.Expression.{ExpressionModel}
+use Rattle.wat_expr.specs.Items.{Items, Nil, Plain, Folded, Block, IfThen, IfElse, Hinted, Only, lists, keyword, hint_name}
 use Rattle.wat_expr.specs.Folded.{Groups, NoGroup, Group, groups, is_folded}
 
 -- the items of a list of plain instructions
-abbrev pub one_by_one : List Instr → Items
+abbrev pub one_by_one : List InstructionModel → Items
 one_by_one [] = Nil
 one_by_one (i ∷ is) = Plain i (one_by_one is)
 
 -- only plain instructions
-abbrev pub AreInstrs : Items → Type 0
-AreInstrs xs = Only (Unit {0}) ⊥ xs
+abbrev pub AreInstructions : Items → Type 0
+AreInstructions xs = Only (Unit {0}) ⊥ xs
 
 -- the own tokens of an instruction that is read from ts and leaves m: ts without m
-abbrev pub own : List Tok → List Tok → List Tok
+abbrev pub own : List Token → List Token → List Token
 own ts m = take (length ts - length m) ts
 
 -- The own tokens of the instructions in the order of `unfolded`, with the keywords `else` and `end`
 -- for added instructions. Parentheses, `then` and `else` after a parenthesis, and hints are left
 -- out. Example: `( if ( i32.const 1 ) ( then nop ) )` gives `i32.const 1 if nop end`.
-abbrev pub flat_tokens : (xs : Items) (ts r : List Tok) → lists xs ts r → List Tok
+abbrev pub flat_tokens : (xs : Items) (ts r : List Token) → lists xs ts r → List Token
 flat_tokens Nil ts r l = []
 flat_tokens (Plain i xs) ts r (m, h, l) = own ts m ++ flat_tokens xs m r l
 flat_tokens (Folded i ys xs) ts r (a, b, d, e, s, h, ly, lx) =
@@ -44,27 +41,28 @@ flat_tokens (IfElse i ops th el xs) ts r (a, b, d, e, f, q, s, h, g, lo, lt, le,
 flat_tokens (Hinted v xs) ts r (d, e, lt, g, l) = flat_tokens xs d r l
 
 -- the same for groups, in the order of `unfolded_groups`
-abbrev pub flat_groups : (gs : Groups) (ts r : List Tok) → groups gs ts r → List Tok
+abbrev pub flat_groups : (gs : Groups) (ts r : List Token) → groups gs ts r → List Token
 flat_groups NoGroup ts r l = []
 flat_groups (Group i gs hs) ts r (a, b, d, e, h, l, k) =
     (flat_groups gs b (RParen ∷ d) l ++ own a b) ++ flat_groups hs d r k
 
 -- the same for a folded instruction
-abbrev pub flat_folded : (i : Instr) (gs : Groups) (ts r : List Tok) → is_folded i gs ts r
-    → List Tok
+abbrev pub flat_folded : (i : InstructionModel) (gs : Groups) (ts r : List Token)
+    → is_folded i gs ts r
+    → List Token
 flat_folded i gs ts r (a, b, e, h, l) = flat_groups gs b (RParen ∷ r) l ++ own a b
 
 -- instructions without a hint
-abbrev pub flat_value : List Instr → Expr
+abbrev pub flat_value : List InstructionModel → ExpressionModel
 flat_value is = record { instrs = is; hints = [] }
 
 -- the number of tokens that pass the test
-abbrev pub how_many : (Tok → Bool) → List Tok → ℕ
+abbrev pub how_many : (Token → Bool) → List Token → ℕ
 how_many test [] = 0
 how_many test (x ∷ ts) = (if test x then 1 else 0) + how_many test ts
 
 -- the test fails on the tokens of groups and hints, and on the keywords that can be added
-abbrev pub PassesOwnAlone : (Tok → Bool) → Type 0
+abbrev pub PassesOwnAlone : (Token → Bool) → Type 0
 PassesOwnAlone test =
     (test LParen ≡ false) × (test RParen ≡ false) × (test (keyword (codes "then")) ≡ false)
     × (test (keyword (codes "else")) ≡ false) × (test (keyword (codes "end")) ≡ false)

@@ -1,13 +1,12 @@
 -- The production of a folded instruction.
-use Rattle.wat_tokens.specs.Asks.{everything}
-use Rattle.wat_tokens.specs.Production.{Production}
-use Rattle.wat_expr.specs.Expression.{Expr}
+use Rattle.wat_instr.specs.Prelude.{everything, Production}
+use Rattle.wat_expr.specs.Expression.{ExpressionModel}
 use Rattle.wat_expr.specs.Folded.{folded_reads, folded_spells}
 use Rattle.wat_expr.specs.Laws.Folded.{folded_sound, folded_complete, folded_takes, folded_balanced}
 use Rattle.wat_expr.specs.Laws.Moves.{folded_moves}
 
 -- ( i groups )
-unfoldable pub folded_instruction : Production Expr
+unfoldable pub folded_instruction : Production ExpressionModel
 folded_instruction = record {
   spells = folded_spells;
   reads = folded_reads;

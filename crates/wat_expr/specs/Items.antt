@@ -1,10 +1,6 @@
 -- Expressions: items, the tokens that list items, and the unfolded instructions.
-use Rattle.std.specs.Prelude.{◌≡◌, ℕ, suc, ◌+◌, ◌<◌, max, Bool, true, false, ◌||◌, List, [], ◌∷◌}
-use Rattle.std.specs.Prelude.{◌++◌, length, Option, Some, None, codes}
-use Rattle.wat_tokens.specs.Production.{Front}
-use Rattle.wat_tokens.specs.Token.{Tok, LParen, RParen, Keyword, Annotation, String}
-use Rattle.wat_instr.specs.Instruction.{Instr, instruction, is_block, is_if, is_br_if, else_instr}
-use Rattle.wat_instr.specs.Instruction.{end_instr}
+use Rattle.std.specs.Prelude.{◌≡◌, ℕ, suc, ◌+◌, ◌<◌, max, Bool, true, false, ◌||◌, List, [], ◌∷◌, ◌++◌, length, Option, Some, None, codes}
+use Rattle.wat_instr.specs.Prelude.{Front, Token, LParen, RParen, Keyword, Annotation, String, InstructionModel, instruction, is_block, is_if, is_br_if, else_instr, end_instr}
 
 -- the kind of a group, by its instruction
 pub data Sort : Type 0 where
@@ -18,22 +14,22 @@ sort_of false true = IsIf
 sort_of false false = IsOther
 
 -- the instruction of a block, an `if`, or any other instruction
-abbrev pub sort : Instr → Sort
+abbrev pub sort : InstructionModel → Sort
 sort i = sort_of (is_block i.row) (is_if i.row)
 
 -- A prefix of the tokens ts spells the instruction, and r is left.
-abbrev pub reads : Instr → List Tok → List Tok → Type 0
+abbrev pub reads : InstructionModel → List Token → List Token → Type 0
 reads i ts r = Front instruction.spells ts (i, r)
 
 -- A list of items: the first item, and as the last argument the items after it. A hint precedes the
 -- items after it.
 pub data Items : Type 0 where
   Nil : Items
-  Plain : Instr → Items → Items
-  Folded : Instr → Items → Items → Items
-  Block : Instr → Items → Items → Items
-  IfThen : Instr → Items → Items → Items → Items
-  IfElse : Instr → Items → Items → Items → Items → Items
+  Plain : InstructionModel → Items → Items
+  Folded : InstructionModel → Items → Items → Items
+  Block : InstructionModel → Items → Items → Items
+  IfThen : InstructionModel → Items → Items → Items → Items
+  IfElse : InstructionModel → Items → Items → Items → Items → Items
   Hinted : ℕ → Items → Items
 
 -- if the list has a Plain item, P holds; if it has any other item, G holds
@@ -51,7 +47,7 @@ abbrev pub AreGroups : Items → Type 0
 AreGroups xs = Only ⊥ (Unit {0}) xs
 
 -- whether the instruction is `br_if` or `if`
-abbrev pub is_branch : Instr → Bool
+abbrev pub is_branch : InstructionModel → Bool
 is_branch i = is_br_if i.row || is_if i.row
 
 -- the first item is a plain `br_if` or `if`, a folded `br_if`, or the group of an `if`
@@ -65,46 +61,46 @@ BeginsWithBranch (IfElse i ops th el xs) = Unit {0}
 BeginsWithBranch (Hinted v xs) = ⊥
 
 -- the token of a keyword, and the token of the annotation of a hint
-abbrev pub keyword : List ℕ → Tok
+abbrev pub keyword : List ℕ → Token
 keyword w = Keyword w
 
-abbrev pub hint_name : Tok
+abbrev pub hint_name : Token
 hint_name = Annotation (codes "metadata.code.branch_hint")
 
 -- The tokens ts list the items before the rest r.
-abbrev pub lists : Items → List Tok → List Tok → Type 0
+abbrev pub lists : Items → List Token → List Token → Type 0
 -- nothing
 lists Nil ts r = ts ≡ r
 -- i
-lists (Plain i xs) ts r = (m : List Tok) × reads i ts m × lists xs m r
+lists (Plain i xs) ts r = (m : List Token) × reads i ts m × lists xs m r
 -- ( i items )
 lists (Folded i ys xs) ts r =
-    (a b d : List Tok) × (ts ≡ LParen ∷ a) × (sort i ≡ IsOther) × reads i a b
+    (a b d : List Token) × (ts ≡ LParen ∷ a) × (sort i ≡ IsOther) × reads i a b
     × lists ys b (RParen ∷ d) × lists xs d r
 -- ( i items ), of a block
 lists (Block i ys xs) ts r =
-    (a b d : List Tok) × (ts ≡ LParen ∷ a) × (sort i ≡ IsBlock) × reads i a b
+    (a b d : List Token) × (ts ≡ LParen ∷ a) × (sort i ≡ IsBlock) × reads i a b
     × lists ys b (RParen ∷ d) × lists xs d r
 -- ( i groups ( then items ) ), of an `if`; i may include a block type
 lists (IfThen i ops th xs) ts r =
-    (a b d e : List Tok) × (ts ≡ LParen ∷ a) × (sort i ≡ IsIf) × reads i a b × AreGroups ops
+    (a b d e : List Token) × (ts ≡ LParen ∷ a) × (sort i ≡ IsIf) × reads i a b × AreGroups ops
     × lists ops b (LParen ∷ keyword (codes "then") ∷ d) × lists th d (RParen ∷ RParen ∷ e)
     × lists xs e r
 -- ( i groups ( then items ) ( else items ) )
 lists (IfElse i ops th el xs) ts r =
-    (a b d e f : List Tok) × (ts ≡ LParen ∷ a) × (sort i ≡ IsIf) × reads i a b × AreGroups ops
+    (a b d e f : List Token) × (ts ≡ LParen ∷ a) × (sort i ≡ IsIf) × reads i a b × AreGroups ops
     × lists ops b (LParen ∷ keyword (codes "then") ∷ d)
     × lists th d (RParen ∷ LParen ∷ keyword (codes "else") ∷ e)
     × lists el e (RParen ∷ RParen ∷ f) × lists xs f r
 -- ( @metadata.code.branch_hint "v" ), v the byte 0 or 1, and an item whose instruction is `br_if`
 -- or `if`
 lists (Hinted v xs) ts r =
-    (d : List Tok) × (ts ≡ LParen ∷ hint_name ∷ String (v ∷ []) ∷ RParen ∷ d) × (v < 2)
+    (d : List Token) × (ts ≡ LParen ∷ hint_name ∷ String (v ∷ []) ∷ RParen ∷ d) × (v < 2)
     × BeginsWithBranch xs × lists xs d r
 
 -- The instructions in the order of a flat list. A folded instruction comes after its operands. The
 -- instruction of a block or an `if` comes before its contents, and `else` and `end` are added.
-abbrev pub unfolded : Items → List Instr
+abbrev pub unfolded : Items → List InstructionModel
 unfolded Nil = []
 unfolded (Plain i xs) = i ∷ unfolded xs
 unfolded (Folded i ys xs) = (unfolded ys ++ i ∷ []) ++ unfolded xs

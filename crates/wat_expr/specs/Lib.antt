@@ -20,7 +20,7 @@ pub mod FoldedProduction
 pub mod GroupTurn
 pub mod Items
 pub mod Laws
-pub mod Listed
+pub mod ItemsRead
 pub mod OpenGroups
 pub mod Progress
 pub mod Reading
@@ -28,3 +28,4 @@ pub mod Rising
 pub mod Rows
 pub mod Taken
 pub mod Turned
+pub mod Prelude

@@ -1,16 +1,15 @@
 -- The open groups of an expression, the innermost group first.
-use Rattle.std.specs.Prelude.{◌≡◌, ℕ, suc, List, [], ◌∷◌, length, Option, Some, None, Bool, true}
-use Rattle.std.specs.Prelude.{false}
-use Rattle.wat_instr.specs.Instruction.{Instr}
+use Rattle.std.specs.Prelude.{◌≡◌, ℕ, suc, List, [], ◌∷◌, length, Option, Some, None, Bool, true, false}
+use Rattle.wat_instr.specs.Instruction.{InstructionModel}
 use Rattle.wat_expr.specs.declared.open_groups.Mark.{Mark}
 use Rattle.wat_expr.specs.declared.open_groups.Kind.{Kind}
 use Rattle.wat_expr.specs.declared.open_groups.Kind.TheVariants as kind
 
 -- a folded group, and an `if` before its `( then`, hold their instruction and its hint
 pub data OpenGroup : Type 0 where
-  InFolded : Instr → Option ℕ → OpenGroup
+  InFolded : InstructionModel → Option ℕ → OpenGroup
   InBlock : OpenGroup
-  InIf : Instr → Option ℕ → OpenGroup
+  InIf : InstructionModel → Option ℕ → OpenGroup
   AfterThen : OpenGroup
   AfterElse : OpenGroup
   InArm : OpenGroup
@@ -38,7 +37,7 @@ waiting (kind.AfterElse ∷ ks) = waiting ks
 waiting (kind.Arm ∷ ks) = waiting ks
 
 -- the open groups with these kinds, instructions and marks, in order
-abbrev pub open_groups : List Kind → List Instr → List Mark → List OpenGroup
+abbrev pub open_groups : List Kind → List InstructionModel → List Mark → List OpenGroup
 open_groups (kind.Folded ∷ ks) (i ∷ is) (m ∷ ms) = InFolded i m.hint ∷ open_groups ks is ms
 open_groups (kind.If ∷ ks) (i ∷ is) (m ∷ ms) = InIf i m.hint ∷ open_groups ks is ms
 open_groups (kind.Block ∷ ks) is ms = InBlock ∷ open_groups ks is ms
@@ -48,7 +47,7 @@ open_groups (kind.Arm ∷ ks) is ms = InArm ∷ open_groups ks is ms
 open_groups _ is ms = []
 
 -- the number of instructions fits the kinds, and each instruction has a mark
-abbrev pub EachHolds : List Kind → List Instr → List Mark → Type 0
+abbrev pub EachHolds : List Kind → List InstructionModel → List Mark → Type 0
 EachHolds ks is ms = (waiting ks ≡ length is) × (length ms ≡ length is)
 
 -- the kind of an open group
@@ -69,8 +68,9 @@ holder false = kind.Folded
 abbrev pub TopIs : Option Kind → List OpenGroup → Type 0
 TopIs None s = s ≡ []
 TopIs (Some kind.Folded) s =
-    (i : Instr) × (h : Option ℕ) × (q : List OpenGroup) × (s ≡ InFolded i h ∷ q)
-TopIs (Some kind.If) s = (i : Instr) × (h : Option ℕ) × (q : List OpenGroup) × (s ≡ InIf i h ∷ q)
+    (i : InstructionModel) × (h : Option ℕ) × (q : List OpenGroup) × (s ≡ InFolded i h ∷ q)
+TopIs (Some kind.If) s = (i : InstructionModel) × (h : Option ℕ) × (q : List OpenGroup)
+    × (s ≡ InIf i h ∷ q)
 TopIs (Some kind.Block) s = (q : List OpenGroup) × (s ≡ InBlock ∷ q)
 TopIs (Some kind.AfterThen) s = (q : List OpenGroup) × (s ≡ AfterThen ∷ q)
 TopIs (Some kind.AfterElse) s = (q : List OpenGroup) × (s ≡ AfterElse ∷ q)

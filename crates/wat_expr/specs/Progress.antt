@@ -1,16 +1,9 @@
 -- The remaining work of the loop in a state: the meaning of its open groups.
-use Rattle.std.specs.Prelude.{◌≡◌, ◌≢◌, ◌⊎◌, ℕ, suc, ◌≤◌, ◌+◌, ◌<◌, max, Bool, true, List, [], ◌∷◌}
-use Rattle.std.specs.Prelude.{length, Option, Some, None, Result, Ok, Err, codes}
-use Rattle.wat_tokens.specs.Token.{Tok, LParen, RParen}
-use Rattle.wat_tokens.specs.Error.{Error, Memory}
-use Rattle.wat_tokens.specs.Parens.{opens, closes}
-use Rattle.wat_tokens.specs.Tests.{ends}
-use Rattle.wat_instr.specs.Instruction.{Instr, else_instr, end_instr}
+use Rattle.std.specs.Prelude.{◌≡◌, ◌≢◌, ◌⊎◌, ℕ, suc, ◌≤◌, ◌+◌, ◌<◌, max, Bool, true, List, [], ◌∷◌, length, Option, Some, None, Result, Ok, Err, codes}
+use Rattle.wat_instr.specs.Prelude.{Token, LParen, RParen, Error, Memory, opens, closes, ends, InstructionModel, else_instr, end_instr}
 use Rattle.wat_expr.specs.Flat.{Flat, push}
-use Rattle.wat_expr.specs.Items.{keyword, Items, Nil, Plain, Folded, Block, IfThen, IfElse, Hinted}
-use Rattle.wat_expr.specs.Items.{Only, is_branch, BeginsWithBranch, lists}
-use Rattle.wat_expr.specs.OpenGroups.{OpenGroup, InFolded, InBlock, InIf, AfterThen, AfterElse}
-use Rattle.wat_expr.specs.OpenGroups.{InArm, heads_in}
+use Rattle.wat_expr.specs.Items.{keyword, Items, Nil, Plain, Folded, Block, IfThen, IfElse, Hinted, Only, is_branch, BeginsWithBranch, lists}
+use Rattle.wat_expr.specs.OpenGroups.{OpenGroup, InFolded, InBlock, InIf, AfterThen, AfterElse, InArm, heads_in}
 
 -- the output, the number of items, and the greatest numbers of open groups and of heads so far
 pub record TalliedFlat : Type 0 where
@@ -19,7 +12,7 @@ pub record TalliedFlat : Type 0 where
   pub peak : ℕ
   pub held : ℕ
 
-abbrev pub with_instr : Option ℕ → Instr → TalliedFlat → TalliedFlat
+abbrev pub with_instr : Option ℕ → InstructionModel → TalliedFlat → TalliedFlat
 with_instr p i f = record { out = push p i f.out; items = f.items; peak = f.peak; held = f.held }
 
 -- one more item
@@ -61,25 +54,26 @@ Fits None xs = Unit {0}
 Fits (Some v) xs = BeginsWithBranch xs
 
 -- whether an instruction can be the first after the pending hint
-abbrev pub suits : Option ℕ → Instr → Bool
+abbrev pub suits : Option ℕ → InstructionModel → Bool
 suits None i = true
 suits (Some v) i = is_branch i
 
 -- a condition on the tokens after a list of items, and on the output so far
 abbrev pub After : Type 1
-After = List Tok → TalliedFlat → Type 0
+After = List Token → TalliedFlat → Type 0
 
 -- Items, and then the condition K on the tokens after them.
-abbrev pub Open : Type 0 → Type 0 → After → ℕ → ℕ → Option ℕ → List Tok → TalliedFlat → Type 0
+abbrev pub Open : Type 0 → Type 0 → After → ℕ → ℕ → Option ℕ → List Token → TalliedFlat → Type 0
 Open P G K k h p ts f =
-    (xs : Items) × (r : List Tok) × lists xs ts r × Fits p xs × Only P G xs × K r (emit k h p xs f)
+    (xs : Items) × (r : List Token) × lists xs ts r × Fits p xs × Only P G xs
+    × K r (emit k h p xs f)
 
 -- the condition at a `)`: N holds after it, in k open groups that hold h heads
 abbrev pub at_closing : ℕ → ℕ → After → After
-at_closing k h N r f = (m : List Tok) × (r ≡ RParen ∷ m) × N m (noted k h f)
+at_closing k h N r f = (m : List Token) × (r ≡ RParen ∷ m) × N m (noted k h f)
 
 -- at the `)`, an instruction is added
-abbrev pub close_with : ℕ → ℕ → After → Instr → Option ℕ → After
+abbrev pub close_with : ℕ → ℕ → After → InstructionModel → Option ℕ → After
 close_with k h N i p = at_closing k h (λ m f. N m (with_instr p i f))
 
 -- after (else ..), the `if` is closed
@@ -93,17 +87,17 @@ arm k h N = Open (Unit {0}) (Unit {0}) (at_closing (suc k) h N) (suc (suc k)) h 
 -- after (then ..), the `if` is closed or (else follows
 abbrev pub after_then : ℕ → ℕ → After → After
 after_then k h N ts f =
-    after_else k h N ts f ⊎ ((m : List Tok) × (ts ≡ LParen ∷ keyword (codes "else") ∷ m)
+    after_else k h N ts f ⊎ ((m : List Token) × (ts ≡ LParen ∷ keyword (codes "else") ∷ m)
     × arm k h (after_else k h N) m (noted (suc (suc k)) h (with_instr None else_instr f)))
 
 -- after the operands of an `if`, (then follows
-abbrev pub then_arm : ℕ → ℕ → After → Instr → Option ℕ → After
+abbrev pub then_arm : ℕ → ℕ → After → InstructionModel → Option ℕ → After
 then_arm k h N i p ts f =
-    (m : List Tok) × (ts ≡ LParen ∷ keyword (codes "then") ∷ m)
+    (m : List Token) × (ts ≡ LParen ∷ keyword (codes "then") ∷ m)
     × arm k h (after_then k h N) m (noted (suc (suc k)) h (with_instr p i f))
 
 -- at the end, r is left, and the output is o
-abbrev pub all_done : TalliedFlat → List Tok → After
+abbrev pub all_done : TalliedFlat → List Token → After
 all_done o r ts f = (ends ts ≡ true) × (ts ≡ r) × (f ≡ o)
 
 -- the open groups that can directly hold an item, and the open groups that can directly hold a
@@ -121,7 +115,7 @@ TakesPlain _ = Unit {0}
 
 -- the condition after the items of the innermost open group, up to the end, where r is left and the
 -- output is o
-abbrev pub after_open_group : TalliedFlat → List Tok → List OpenGroup → After
+abbrev pub after_open_group : TalliedFlat → List Token → List OpenGroup → After
 after_open_group o r [] = all_done o r
 after_open_group o r (InFolded i p ∷ s) =
     close_with (length s) (heads_in s)
@@ -147,11 +141,11 @@ after_open_group o r (InArm ∷ s) =
 pub record TalliedState : Type 0 where
   pub open_groups : List OpenGroup
   pub pending : Option ℕ
-  pub left : List Tok
+  pub left : List Token
   pub flat : TalliedFlat
 
 -- From the state s, the tokens that are left finish with the output o before the rest r.
-abbrev pub Finishes : TalliedFlat → List Tok → TalliedState → Type 0
+abbrev pub Finishes : TalliedFlat → List Token → TalliedState → Type 0
 Finishes o r s =
     Open (TakesPlain s.open_groups) (IsOpen s.open_groups) (after_open_group o r s.open_groups)
     (length s.open_groups)
@@ -159,12 +153,12 @@ Finishes o r s =
 
 -- both states finish with the same outputs and rests
 pub record Same (s t : TalliedState) : Type 0 where
-  pub forth : (o : TalliedFlat) (r : List Tok) → Finishes o r s → Finishes o r t
-  pub back : (o : TalliedFlat) (r : List Tok) → Finishes o r t → Finishes o r s
+  pub forth : (o : TalliedFlat) (r : List Token) → Finishes o r s → Finishes o r t
+  pub back : (o : TalliedFlat) (r : List Token) → Finishes o r t → Finishes o r s
 
 -- the state can't finish
 abbrev pub IsStuck : TalliedState → Type 0
-IsStuck s = (o : TalliedFlat) (r : List Tok) → Finishes o r s → ⊥
+IsStuck s = (o : TalliedFlat) (r : List Token) → Finishes o r s → ⊥
 
 -- ---- a turn, for any counters before it
 
@@ -180,7 +174,7 @@ with_tallies f c = record { out = f; items = c.items; peak = c.peak; held = c.he
 pub record LoopState : Type 0 where
   pub open_groups : List OpenGroup
   pub pending : Option ℕ
-  pub left : List Tok
+  pub left : List Token
   pub out : Flat
 
 abbrev pub state_with : LoopState → Tallies → TalliedState
@@ -197,7 +191,7 @@ abbrev pub risen : ℕ → List OpenGroup → Tallies → Tallies
 risen n s c = record { items = n; peak = max c.peak (length s); held = max c.held (heads_in s) }
 
 -- the number of open groups rises by the number of taken `(`, minus the number of taken `)`
-abbrev pub Balanced : ℕ → List Tok → ℕ → List Tok → Type 0
+abbrev pub Balanced : ℕ → List Token → ℕ → List Token → Type 0
 Balanced k ts l us = l + closes ts + opens us ≡ k + opens ts + closes us
 
 -- The remaining work is the same as before, with at most one more item. At least one token was

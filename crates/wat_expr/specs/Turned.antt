@@ -1,12 +1,12 @@
 -- The state of the reader.
 use Rattle.std.specs.Prelude.{◌≡◌, ◌<◌, List, [], ◌∷◌, Option, Some, None, ℕ}
-use Rattle.wat_tokens.specs.Token.{Tok}
+use Rattle.wat_tokens.specs.Token.{Token}
 use Rattle.wat_expr.specs.declared.reader.Reader.{Reader}
 use Rattle.wat_expr.specs.Flat.{flat}
 use Rattle.wat_expr.specs.Progress.{LoopState}
 
 -- the reader r, before the tokens ts
-abbrev pub stand : Reader → List Tok → LoopState
+abbrev pub stand : Reader → List Token → LoopState
 stand r ts = record {
   open_groups = r.open_groups;
   pending = r.pending;

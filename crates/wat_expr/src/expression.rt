@@ -1,23 +1,13 @@
 //! Expressions and branch hints.
 
-ghost use Rattle.std.specs.Prelude.{◌≡◌, ◌<◌, [], ◌∷◌, ◌++◌, List, Option, map, None, true};
-ghost use Rattle.std.specs.Vec.{vec_len, vec_capacity};
-ghost use Rattle.std.specs.Prelude.{IfOk, IfErr, MatchResult};
-ghost use Rattle.wat_expr.specs.Expression.{Expr, hint_view, expression_view, bare_expression};
-ghost use Rattle.wat_expr.specs.Expression.{value_of, SpansAre, kept_spans, and_span};
+ghost use Rattle.std.specs.Prelude.{◌≡◌, ◌<◌, [], ◌∷◌, ◌++◌, List, Option, map, None, true, IfOk, IfErr, MatchResult};
+ghost use Rattle.wat_instr.specs.Prelude.{vec_len, vec_capacity, instruction_view, end_instr, turns_too, Accepts, ReadsAt, Steady, ends, Token, owning};
+ghost use Rattle.wat_expr.specs.Expression.{ExpressionModel, hint_view, expression_view, heapless_expression, value_of, SpansAre, kept_spans, and_span};
 ghost use Rattle.wat_expr.specs.Flat.{span_count, flat, no_output, one_more, push};
 ghost use Rattle.wat_expr.specs.Items.{Items, lists, mark};
-ghost use Rattle.wat_expr.specs.Listed.{IsListed};
+ghost use Rattle.wat_expr.specs.ItemsRead.{IsListed};
 ghost use Rattle.wat_expr.specs.Taken.{ReadsBehind};
 ghost use Rattle.wat_expr.specs.ExpressionProduction.{expression};
-ghost use Rattle.wat_instr.specs.Instruction.{instruction_view, end_instr};
-ghost use Rattle.wat_tokens.specs.Cost.{turns_too};
-ghost use Rattle.wat_tokens.specs.Parses.{Accepts};
-ghost use Rattle.wat_tokens.specs.Reads.{ReadsAt};
-ghost use Rattle.wat_tokens.specs.Steady.{Steady};
-ghost use Rattle.wat_tokens.specs.Tests.{ends};
-ghost use Rattle.wat_tokens.specs.Token.{Tok};
-ghost use Rattle.wat_tokens.specs.Views.{owning};
 
 use crate::reader::Reader;
 use crate::take::read_behind;
@@ -265,24 +255,26 @@ impl<'a> Expression<'a> {
 /// - Memory, but never for an expression without instructions;
 /// - Unexpected: anything else.
 impl<'a> Parse<'a> for Expression<'a> {
-    ghost View = { Expr };
+    ghost View = { ExpressionModel };
 
-    ghost view = { owning expression_view bare_expression };
+    ghost view = { owning expression_view heapless_expression };
 
     ghost cost = { turns_too };
 
     ghost grammar = { expression };
 
     fn parse(parser: &mut Parser<'a>) -> Result<Self>
-        ensures reads { ReadsAt turns_too (owning expression_view bare_expression) expression result
+        ensures reads { ReadsAt turns_too (owning expression_view heapless_expression) expression
+            result
             parser.old parser.new }
         // The taken tokens list items. The result has the unfolded instructions and the hints of
         // the items. The counters cover the number and depth of the items.
         ensures listed { IfOk result (λ e. IsListed parser.old parser.new e) }
         // If the next tokens list items up to the end, the result is the value of these items. The
         // only error is then Memory.
-        ensures only { (xs : Items) (r : List Tok) → lists xs parser.old.left r → ends r ≡ true
-            → Accepts (owning expression_view bare_expression) result (value_of xs) parser.new.left
+        ensures only { (xs : Items) (r : List Token) → lists xs parser.old.left r → ends r ≡ true
+            → Accepts (owning expression_view heapless_expression) result (value_of xs)
+            parser.new.left
             r }
         ensures spans { IfOk result (λ e. SpansAre parser.old.tracks e) }
     {

@@ -1,20 +1,11 @@
 //! Folded instructions of any kind, for the elements of element segments and inline tables.
 
 ghost use Rattle.std.specs.Prelude.{◌≡◌, ◌∷◌, ℕ, List, Option, IfOk};
-ghost use Rattle.wat_expr.specs.Expression.{Expr, expression_view, bare_expression, SpansAre};
-ghost use Rattle.wat_expr.specs.Flat.{flat};
-ghost use Rattle.wat_expr.specs.Folded.{Groups, folded_value, is_folded};
-ghost use Rattle.wat_expr.specs.FoldedProduction.{folded_instruction};
-ghost use Rattle.wat_expr.specs.GroupTurn.{GroupTurn, OpensBehind, group_state};
-ghost use Rattle.wat_expr.specs.Listed.{IsFolded};
-ghost use Rattle.wat_expr.specs.OpenGroups.{OpenGroup, InFolded};
-ghost use Rattle.wat_instr.specs.Instruction.{Instr};
-ghost use Rattle.wat_tokens.specs.Cost.{turns_too};
-ghost use Rattle.wat_tokens.specs.Counts.{Counted, SameSettings};
-ghost use Rattle.wat_tokens.specs.Parses.{Gives, Accepts};
-ghost use Rattle.wat_tokens.specs.Steady.{Steady};
-ghost use Rattle.wat_tokens.specs.Token.{Tok};
-ghost use Rattle.wat_tokens.specs.Views.{owning};
+ghost use Rattle.wat_instr.specs.Prelude.{Accepts, Steady};
+ghost use Rattle.wat_expr.specs.Prelude.{ExpressionModel, expression_view, heapless_expression, SpansAre, flat, Groups, folded_value, is_folded, folded_instruction, group_state, OpenGroup, InFolded, InstructionModel, turns_too, SameSettings, Gives, Token, owning};
+ghost use Rattle.wat_expr.specs.GroupTurn.{GroupTurn, OpensBehind};
+ghost use Rattle.wat_tokens.specs.Counts.{Counted};
+ghost use Rattle.wat_expr.specs.ItemsRead.{IsFolded};
 
 use crate::expression::Expression;
 use crate::open_groups::{Kind, Mark, OpenGroups};
@@ -45,7 +36,7 @@ fn turn<'a>(
     out: &mut Expression<'a>,
     parser: &mut Parser<'a>,
 ) -> Result<()>
-    requires { (i : Instr) × (h : Option ℕ) × (s : List OpenGroup)
+    requires { (i : InstructionModel) × (h : Option ℕ) × (s : List OpenGroup)
         × (open_groups.old ≡ InFolded i h ∷ s) }
     ensures turned { GroupTurn result (group_state open_groups.old parser.old.left (flat out.old))
         (group_state open_groups.new parser.new.left (flat out.new)) }
@@ -78,12 +69,13 @@ impl<'a> Expression<'a> {
     pub fn parse_folded_instruction(parser: &mut Parser<'a>) -> Result<Expression<'a>>
         // The result is the expression that the next tokens spell, and the tokens after them are
         // left. If the next tokens spell an expression, the only error is Memory.
-        ensures exact { Gives (owning expression_view bare_expression) result
+        ensures exact { Gives (owning expression_view heapless_expression) result
             (folded_instruction.reads parser.old.left) parser.new.left }
         // If the next tokens list one group, the result is that group. The only error is then
         // Memory.
-        ensures only { (i : Instr) (gs : Groups) (r : List Tok) → is_folded i gs parser.old.left r
-            → Accepts (owning expression_view bare_expression) result (folded_value i gs)
+        ensures only { (i : InstructionModel) (gs : Groups) (r : List Token) → is_folded i gs
+            parser.old.left r
+            → Accepts (owning expression_view heapless_expression) result (folded_value i gs)
             parser.new.left r }
         // The taken tokens are one group. The counters cover its number and depth of groups.
         ensures listed { IfOk result (λ e. IsFolded parser.old parser.new e) }
@@ -114,9 +106,9 @@ impl<'a> Expression<'a> {
 pub struct FoldedInstruction<'a>(pub Expression<'a>);
 
 impl<'a> Parse<'a> for FoldedInstruction<'a> {
-    ghost View = { Expr };
+    ghost View = { ExpressionModel };
 
-    ghost view = { owning (λ folded. expression_view folded.0) bare_expression };
+    ghost view = { owning (λ folded. expression_view folded.0) heapless_expression };
 
     ghost cost = { turns_too };
 

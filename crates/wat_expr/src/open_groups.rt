@@ -1,14 +1,12 @@
 //! The open groups of an expression.
 
-ghost use Rattle.std.specs.Prelude.{◌≡◌, ◌<◌, ◌∷◌, ◌++◌, [], List, MatchBool, MatchOption};
-ghost use Rattle.std.specs.Prelude.{MatchResult, length};
-ghost use Rattle.std.specs.Vec.{vec_len, vec_capacity};
+ghost use Rattle.std.specs.Prelude.{◌≡◌, ◌<◌, ◌∷◌, ◌++◌, [], List, MatchBool, MatchResult, length};
+ghost use Rattle.wat_instr.specs.Prelude.{vec_len, vec_capacity, Steady};
 ghost use Rattle.wat_expr.specs.Closed.{Pops, Releases};
 ghost use Rattle.wat_expr.specs.Flat.{flat};
 ghost use Rattle.wat_expr.specs.OpenGroups.{heads_in, open_groups, waiting, TopIs};
 ghost use Rattle.wat_expr.specs.Progress.{TakesPlain};
 ghost use Rattle.wat_expr.specs.Taken.{ReadsBehind};
-ghost use Rattle.wat_tokens.specs.Steady.{Steady};
 
 use crate::expression::Expression;
 use crate::take::{make_room, read_behind, refuse};

@@ -1,18 +1,13 @@
 //! The loop over the tokens of an expression, turn by turn.
 
-ghost use Rattle.std.specs.Prelude.{◌≡◌, ◌∷◌, [], List, ℕ, Option, None, true, false, codes};
-ghost use Rattle.std.specs.Prelude.{MatchBool};
+ghost use Rattle.std.specs.Prelude.{◌≡◌, ◌∷◌, [], List, ℕ, Option, None, true, false, codes, MatchBool};
+ghost use Rattle.wat_instr.specs.Prelude.{InstructionModel, is_if, op_row, Steady, ends, Token, LParen, RParen};
 ghost use Rattle.wat_expr.specs.Flat.{flat, no_output};
 ghost use Rattle.wat_expr.specs.Items.{keyword, hint_name};
-ghost use Rattle.wat_expr.specs.OpenGroups.{OpenGroup as Open, InIf, AfterThen, holder};
 ghost use Rattle.wat_expr.specs.Progress.{IsOpen, TurnAnswers};
 ghost use Rattle.wat_expr.specs.Taken.{suits_word, TakesSuited};
 ghost use Rattle.wat_expr.specs.Turned.{stand, IsHintByte};
-ghost use Rattle.wat_instr.specs.Instruction.{Instr, is_if};
-ghost use Rattle.wat_mnemonics.specs.Ops.{op_row};
-ghost use Rattle.wat_tokens.specs.Steady.{Steady};
-ghost use Rattle.wat_tokens.specs.Tests.{ends};
-ghost use Rattle.wat_tokens.specs.Token.{Tok, LParen, RParen};
+ghost use Rattle.wat_expr.specs.OpenGroups.{OpenGroup as Open, InIf, AfterThen, holder};
 
 use crate::expression::Expression;
 use crate::open_groups::{Kind, Mark, OpenGroups};
@@ -140,7 +135,7 @@ impl<'a> Reader<'a> {
 
     /// A turn at an instruction outside parentheses.
     fn plain(&mut self, parser: &mut Parser<'a>) -> Result<()>
-        requires no_group { (ts : List Tok) → parser.old.left ≡ LParen ∷ ts → ⊥ }
+        requires no_group { (ts : List Token) → parser.old.left ≡ LParen ∷ ts → ⊥ }
         requires no_end { ends parser.old.left ≡ false }
         ensures turned { TurnAnswers result (stand self.old parser.old.left)
             (stand self.new parser.new.left) }
@@ -161,7 +156,7 @@ impl<'a> Reader<'a> {
     /// A turn at a `)` at `span`, which was taken.
     fn close(&mut self, span: Span) -> Result<()>
         requires { self.old.open_groups ≡ [] → ⊥ }
-        ensures { (m : List Tok) → TurnAnswers result
+        ensures { (m : List Token) → TurnAnswers result
             (stand self.old (RParen ∷ m)) (stand self.new m) }
     {
         if let Some(_) = self.pending {
@@ -199,9 +194,9 @@ impl<'a> Reader<'a> {
 
     /// A turn at `( then`, which was taken. `span` is the place of the keyword.
     fn open_then(&mut self, span: Span) -> Result<()>
-        requires { (i : Instr) × (h : Option ℕ) × (s : List Open)
+        requires { (i : InstructionModel) × (h : Option ℕ) × (s : List Open)
             × (self.old.open_groups ≡ InIf i h ∷ s) }
-        ensures { (m : List Tok) → TurnAnswers result
+        ensures { (m : List Token) → TurnAnswers result
             (stand self.old (LParen ∷ keyword (codes "then") ∷ m)) (stand self.new m) }
     {
         if let Some(_) = self.pending {
@@ -238,8 +233,9 @@ impl<'a> Reader<'a> {
     /// A turn at a group or a hint, whose `(` was taken.
     fn open_item(&mut self, parser: &mut Parser<'a>) -> Result<()>
         requires place { IsOpen self.old.open_groups }
-        requires no_then { (ts : List Tok) → parser.old.left ≡ keyword (codes "then") ∷ ts
-            → (i : Instr) (h : Option ℕ) (s : List Open) → self.old.open_groups ≡ InIf i h ∷ s → ⊥ }
+        requires no_then { (ts : List Token) → parser.old.left ≡ keyword (codes "then") ∷ ts
+            → (i : InstructionModel) (h : Option ℕ) (s : List Open) → self.old.open_groups ≡ InIf i
+            h ∷ s → ⊥ }
         ensures turned { TurnAnswers result (stand self.old (LParen ∷ parser.old.left))
             (stand self.new parser.new.left) }
         ensures steady { Steady parser.old parser.new }

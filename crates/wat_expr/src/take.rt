@@ -1,12 +1,9 @@
 //! Functions that take one token or an instruction.
 
-ghost use Rattle.std.specs.Prelude.{◌≡◌, ◌<◌, ◌++◌, ◌∷◌, [], map, codes, IfOk, IfErr, Err};
-ghost use Rattle.std.specs.Vec.{vec_len, vec_capacity};
+ghost use Rattle.std.specs.Prelude.{◌≡◌, ◌<◌, ◌++◌, ◌∷◌, [], map, IfOk, IfErr, Err};
+ghost use Rattle.wat_instr.specs.Prelude.{vec_len, vec_capacity, instruction_view, Steady, LParen, RParen};
 ghost use Rattle.wat_expr.specs.Items.{hint_name, keyword};
 ghost use Rattle.wat_expr.specs.Taken.{TakesIf, TakesString, TakesOp, ReadsBehind};
-ghost use Rattle.wat_instr.specs.Instruction.{instruction_view};
-ghost use Rattle.wat_tokens.specs.Steady.{Steady};
-ghost use Rattle.wat_tokens.specs.Token.{LParen, RParen};
 
 use wat_instr::{Instruction, Op};
 use wat_tokens::{Error, Fault, Parser, Result};

@@ -1,51 +1,28 @@
 -- Texts as tokens, and the element segments and tables that they spell: the values read from them.
-use Rattle.std.proofs.Common.{◌≡◌, List, [], ◌∷◌, ◌++◌, Some, refl}
-use Rattle.std.specs.Prelude.{codes}
-use Rattle.wat_tokens.specs.Index.{number}
-use Rattle.wat_tokens.specs.ManySpells.{many_at, many_reads}
-use Rattle.wat_tokens.specs.NameAnnotation.{name_annotation}
-use Rattle.wat_tokens.specs.Number.{read}
-use Rattle.wat_tokens.specs.Spelled.{in_parens}
-use Rattle.wat_tokens.specs.Laws.Spelled.{spelled_whole}
-use Rattle.wat_tokens.specs.Token.{Tok, Keyword, Integer, RParen}
-use Rattle.wat_types.specs.Label.{label}
+use Rattle.std.specs.Prelude.{◌≡◌, List, [], ◌∷◌, ◌++◌, Some, refl, codes}
+use Rattle.wat_fields.specs.Prelude.{number, many_at, many_reads, name_annotation, read, in_parens, spelled_whole, Token, Keyword, Integer, RParen, label, is_64, limits_type, table_type, shorthand, at_shorthand, ref_type, inline_export, head, mnemonic_of, op_of_word, instr_of, instruction, operand, alone, grouped_read, folded_instruction, expression, elem_offset, table_number, in_some_table, declared_segment, active_segment, passive_segment, segment, elem, index_list, ref_func_of, item_list, typed_elems, elem_list, payload, payload_or_indices, written_or_folded, item, inline_table, normal_table, table_kind, table}
+use Rattle.wat_expr.specs.Laws.Alone.{alone_read, folded_read}
 use Rattle.wat_types.specs.Heap.{abstract_heap_type, heap_type}
-use Rattle.wat_types.specs.Limits.{is_64, limits_type, table_type}
-use Rattle.wat_types.specs.Reference.{shorthand, at_shorthand, ref_type}
-use Rattle.wat_links.specs.Export.{inline_export}
-use Rattle.wat_links.specs.FieldHead.{head}
-use Rattle.wat_mnemonics.specs.Word.{mnemonic_of}
-use Rattle.wat_mnemonics.specs.Laws.Word.{op_of_word}
+use Rattle.wat_fields.specs.ElementRows.{zero_const, zero_alone, active_text, active_elem, null_func, null_text, nulls_text, nulls, items_text, two_items, Declared, OfExternref, Active, OfNulls, OfItems}
 use Rattle.wat_mnemonics.specs.declared.op.Op.TheVariants as word
 use Rattle.wat_mnemonics.specs.declared.indexed.IndexedOp.TheVariants as op
-use Rattle.wat_instr.specs.Instruction.{instr_of, instruction}
 use Rattle.wat_instr.specs.Operand as operands
-use Rattle.wat_instr.specs.Operand.{operand}
-use Rattle.wat_expr.specs.Alone.{alone}
-use Rattle.wat_expr.specs.Laws.Alone.{alone_read, grouped_read, folded_read}
-use Rattle.wat_expr.specs.FoldedProduction.{folded_instruction}
-use Rattle.wat_expr.specs.ExpressionProduction.{expression}
-use Rattle.wat_fields.specs.Elem.{elem_offset, table_number, in_some_table, declared_segment, active_segment, passive_segment, segment, elem}
-use Rattle.wat_fields.specs.Payload.{index_list, ref_func_of, item_list, typed_elems, listed, payload, payload_or_indices}
-use Rattle.wat_fields.specs.Item.{written_or_folded, item}
-use Rattle.wat_fields.specs.ElementRows.{zero_const, zero_alone, active_text, active_elem, null_func, null_text, nulls_text, nulls, items_text, two_items, Declared, OfExternref, Active, OfNulls, OfItems}
-use Rattle.wat_fields.specs.Table.{inline_table, normal_table, table_kind, table}
 
 pub declared_func : Declared
 unfolding elem segment declared_segment payload index_list label name_annotation many_at many_reads read
 declared_func = spelled_whole elem _ _ refl
 
 pub of_externref : OfExternref
-unfolding table table_kind inline_table listed index_list head inline_export label name_annotation is_64 ref_type shorthand at_shorthand many_at many_reads read
+unfolding table table_kind inline_table elem_list index_list head inline_export label name_annotation is_64 ref_type shorthand at_shorthand many_at many_reads read
 of_externref = spelled_whole table _ _ refl
 
 const_word : mnemonic_of (codes "i32.const") ≡ Some word.i32_const
 const_word = op_of_word word.i32_const (codes "i32.const") refl
 
-abbrev const_text : List Tok
+abbrev const_text : List Token
 const_text = Keyword (codes "i32.const") ∷ Integer (codes "0") ∷ []
 
-abbrev behind_const : List Tok
+abbrev behind_const : List Token
 behind_const = Integer (codes "1") ∷ Integer (codes "2") ∷ []
 
 const_folded : folded_instruction.reads (in_parens const_text ++ behind_const) ≡ Some (zero_alone, behind_const)
@@ -76,10 +53,10 @@ table_of_nulls = spelled_whole table nulls_text nulls (rw null_read refl)
 func_word : mnemonic_of (codes "ref.func") ≡ Some (word.Indexed op.ref_func)
 func_word = op_of_word (word.Indexed op.ref_func) (codes "ref.func") refl
 
-abbrev func_text : List Tok
+abbrev func_text : List Token
 func_text = Keyword (codes "ref.func") ∷ Integer (codes "0") ∷ []
 
-abbrev behind_func : List Tok
+abbrev behind_func : List Token
 behind_func = RParen ∷ in_parens null_text
 
 func_read : expression.reads (func_text ++ behind_func) ≡ Some (ref_func_of (number 0), behind_func)

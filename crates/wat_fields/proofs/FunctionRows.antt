@@ -1,32 +1,13 @@
 -- Texts as tokens, and the functions, globals and tags that they spell: the values read from them.
-use Rattle.std.proofs.Common.{[], ◌∷◌, Some, None, refl}
+use Rattle.std.specs.Prelude.{[], ◌∷◌, Some, None, refl, codes}
 use Rattle.std.specs.Char.{encode_utf8}
-use Rattle.std.specs.Prelude.{codes}
 use Rattle.std.specs.Str.{chars, is_utf8}
-use Rattle.wat_tokens.specs.ManySpells.{many_at, many_reads}
-use Rattle.wat_tokens.specs.NameAnnotation.{name_annotation}
-use Rattle.wat_tokens.specs.Laws.Spelled.{spelled_whole}
-use Rattle.wat_tokens.specs.Token.{Keyword}
-use Rattle.wat_types.specs.Function.{function_groups}
-use Rattle.wat_types.specs.FunctionSpells.{func_groups}
+use Rattle.wat_fields.specs.Prelude.{many_at, many_reads, name_annotation, spelled_whole, Keyword, function_groups, func_groups, label, label_of, no_label, global_type, type_use, use_of, i32, i64, f32, val_type, inline_export, no_head, head, inline_import, alone, nop_read, inline, func_of, func_inline, func_defined, func, FuncModel, global_defined, global, local_of, labelled_local, plain_locals, listed_locals, local_parser, locals, tag}
+use Rattle.wat_expr.specs.Alone.{nop}
 use Rattle.wat_types.specs.Group.{func_group, params, plain_params}
-use Rattle.wat_types.specs.Label.{label, label_of, no_label}
-use Rattle.wat_types.specs.Storage.{global_type}
-use Rattle.wat_types.specs.Use.{type_use, use_of}
-use Rattle.wat_types.specs.Value.{i32, i64, f32, val_type}
-use Rattle.wat_links.specs.Export.{inline_export}
-use Rattle.wat_links.specs.FieldHead.{no_head, head}
-use Rattle.wat_links.specs.Import.{inline_import}
-use Rattle.wat_expr.specs.Alone.{alone, nop}
-use Rattle.wat_expr.specs.Laws.Alone.{nop_read}
-use Rattle.wat_fields.specs.Func.{inline, func_of, func_inline, func_defined, func, FuncFieldTy}
-use Rattle.wat_fields.specs.Global.{global_defined, global}
-use Rattle.wat_fields.specs.Local.{local_of, labelled_local, plain_locals, listed_locals, local_parser}
-use Rattle.wat_fields.specs.Locals.{locals}
 use Rattle.wat_fields.specs.FunctionRows.{locals_and_body, Locals, ImportedGlobal, PlainTag}
-use Rattle.wat_fields.specs.Tag.{tag}
 
-abbrev with_locals : FuncFieldTy
+abbrev with_locals : FuncModel
 with_locals =
     func_of no_head (use_of None None, inline (local_of no_label i32 ∷ local_of no_label i64 ∷ local_of (label_of (Some (codes "x")) None) f32 ∷ []) (alone nop))
 

@@ -1,18 +1,9 @@
 -- Lists of values that are read one after the other.
-use Rattle.std.proofs.Common.{◌≡◌, ◌≤◌, ℕ, List, [], map}
+use Rattle.std.specs.Prelude.{◌≡◌, ◌≤◌, ℕ, List, [], map}
 use Rattle.std.proofs.lemmas.List.{map-id}
-use Rattle.wat_tokens.specs.Laws.Filled.{filled_behind}
+use Rattle.wat_fields.specs.Prelude.{filled_behind, Token, more, at_more, Production, many_reads, joined, data_val_consumes, local_group_consumes, vector_consumes, item_consumes}
+use Rattle.wat_tokens.specs.Joined.{joined_behind}
 use Rattle.wat_tokens.specs.Laws.Joined.{joined_reads}
-use Rattle.wat_tokens.specs.Token.{Tok}
-use Rattle.wat_tokens.specs.Tests.{more}
-use Rattle.wat_tokens.specs.Test.{at_more}
-use Rattle.wat_tokens.specs.Production.{Production}
-use Rattle.wat_tokens.specs.ManySpells.{many_reads}
-use Rattle.wat_tokens.specs.Joined.{joined, joined_behind}
-use Rattle.wat_fields.specs.Laws.DataVal.{data_val_consumes}
-use Rattle.wat_fields.specs.Laws.Local.{local_group_consumes}
-use Rattle.wat_fields.specs.Laws.Numbers.{vector_consumes}
-use Rattle.wat_fields.specs.Laws.Payload.{item_consumes}
 use Rattle.wat_fields.specs.Laws.RefFuncs.{ref_func_consumes}
 
 -- the view of bytes, one by one
@@ -23,7 +14,7 @@ bytes_again xs = map-id xs
 pub ruleset bytes_put = (bytes_again, filled_behind)
 
 -- parts of groups, to the end
-pub joined_to_end : {A : Type 0} (g : Production (List A)) (consumes : 1 ≤ g.least) (t : List Tok) → joined_behind [] (many_reads more g t) ≡ (joined at_more g consumes).reads t
+pub joined_to_end : {A : Type 0} (g : Production (List A)) (consumes : 1 ≤ g.least) (t : List Token) → joined_behind [] (many_reads more g t) ≡ (joined at_more g consumes).reads t
 joined_to_end g consumes t = joined_reads at_more g consumes t
 
 -- the bytes of numbers, or the locals of groups, one after the other

@@ -1,34 +1,12 @@
 -- Texts as tokens, and the memories and data segments that they spell: the values read from them.
-use Rattle.std.proofs.Common.{◌≡◌, List, [], ◌∷◌, Some, refl}
-use Rattle.std.specs.Prelude.{codes}
-use Rattle.wat_tokens.specs.ManySpells.{many_at, many_reads}
-use Rattle.wat_tokens.specs.NameAnnotation.{name_annotation}
-use Rattle.wat_tokens.specs.Number.{read}
-use Rattle.wat_tokens.specs.Laws.Spelled.{spelled_whole}
-use Rattle.wat_tokens.specs.Token.{Tok, RParen}
+use Rattle.std.specs.Prelude.{◌≡◌, List, [], ◌∷◌, Some, refl, codes}
+use Rattle.wat_fields.specs.Prelude.{many_at, many_reads, name_annotation, read, spelled_whole, Token, RParen, function_groups, func_groups, label, is_64, limits_type, pagesize_or_none, memory_type, type_use, inline_export, head, mnemonic_of, op_of_word, instruction, operand, nop_read, data_memory, data_active, data_kind, data_segment, data_val, data_vals, inline_memory, memory_kind, memory, wide_numbers, number_list, head_last, offset_inside}
+use Rattle.wat_types.specs.Limits.{page_exponent, pagesize}
 use Rattle.wat_types.specs.Exponent.{exponent}
-use Rattle.wat_types.specs.Function.{function_groups}
-use Rattle.wat_types.specs.FunctionSpells.{func_groups}
-use Rattle.wat_types.specs.Label.{label}
-use Rattle.wat_types.specs.Limits.{is_64, limits_type, page_exponent, pagesize, pagesize_or_none, memory_type}
-use Rattle.wat_types.specs.Use.{type_use}
-use Rattle.wat_links.specs.Export.{inline_export}
-use Rattle.wat_links.specs.FieldHead.{head}
-use Rattle.wat_mnemonics.specs.Word.{mnemonic_of}
-use Rattle.wat_mnemonics.specs.Laws.Word.{op_of_word}
+use Rattle.wat_operands.specs.Block.{block_type}
+use Rattle.wat_fields.specs.SegmentRows.{block_text, head_behind_nop, InlineMemory, SharedMemory, PassiveData, HeadLast}
 use Rattle.wat_mnemonics.specs.declared.op.Op.TheVariants as word
 use Rattle.wat_mnemonics.specs.declared.indexed.BlockOp.TheVariants as block
-use Rattle.wat_operands.specs.Block.{block_type}
-use Rattle.wat_instr.specs.Instruction.{instruction}
-use Rattle.wat_instr.specs.Operand.{operand}
-use Rattle.wat_expr.specs.Laws.Alone.{nop_read}
-use Rattle.wat_fields.specs.Data.{data_memory, data_active, data_kind, data_segment}
-use Rattle.wat_fields.specs.DataVal.{data_val}
-use Rattle.wat_fields.specs.DataVals.{data_vals}
-use Rattle.wat_fields.specs.Memory.{inline_memory, memory_kind, memory}
-use Rattle.wat_fields.specs.Numbers.{wide_numbers, number_list}
-use Rattle.wat_fields.specs.Offset.{head_last, offset_inside}
-use Rattle.wat_fields.specs.SegmentRows.{block_text, head_behind_nop, InlineMemory, SharedMemory, PassiveData, HeadLast}
 
 pub inline_memory_of_text : InlineMemory
 unfolding memory memory_kind inline_memory head inline_export label name_annotation is_64 pagesize_or_none pagesize page_exponent exponent data_vals data_val many_at many_reads read
@@ -45,7 +23,7 @@ passive_data = (spelled_whole data_segment _ _ refl, spelled_whole data_segment 
 block_word : mnemonic_of (codes "block") ≡ Some (word.Block block.block)
 block_word = op_of_word (word.Block block.block) (codes "block") refl
 
-abbrev closed : List Tok
+abbrev closed : List Token
 closed = RParen ∷ []
 
 pub head_of_data_last : HeadLast

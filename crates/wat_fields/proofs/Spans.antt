@@ -1,22 +1,10 @@
 -- Where the expressions of fields keep spans: lemmas for the functions' proofs.
-use Rattle.std.proofs.Common.{◌≡◌, ℕ, Bool, true, false, ◌&&◌, List, [], ◌∷◌, ◌++◌, length, Option, Some, None, refl, ap, subst, sym, ◌∙◌, arith, length-append}
-use Rattle.std.specs.Prelude.{Vec, codes, eqb}
-use Rattle.std.proofs.lemmas.Bool.{eqb-true, eq-eqb}
-use Rattle.std.specs.declared.alloc.Global.{Global}
-use Rattle.wat_tokens.specs.Index.{Idx}
-use Rattle.wat_tokens.specs.Parts.{flag}
-use Rattle.wat_tokens.specs.PartSpells.{one_reads}
-use Rattle.wat_tokens.specs.Production.{some_of, none_of}
-use Rattle.wat_tokens.specs.Laws.Production.{by_read, by_option, some_is, none_is_not}
-use Rattle.wat_tokens.specs.Tests.{as_lparen, word_only, begins_word, begins_lparen, second}
-use Rattle.wat_tokens.specs.Token.{Tok}
-use Rattle.wat_types.specs.Label.{Label, label}
-use Rattle.wat_types.specs.Limits.{is_64}
-use Rattle.wat_types.specs.Reference.{RefTy, ref_type}
-use Rattle.wat_links.specs.FieldHead.{FieldHeadTy, head}
-use Rattle.wat_expr.specs.Expression.{SpansAre, kept_spans, and_span}
-use Rattle.wat_expr.specs.declared.expression.Expression.{Expression}
-use Rattle.wat_fields.specs.Data.{data_memory}
+use Rattle.std.proofs.Common.{◌≡◌, ℕ, Bool, true, false, ◌&&◌, List, [], ◌∷◌, ◌++◌, length, Option, Some, None, refl, ap, subst, sym, ◌∙◌, arith, length-append, Vec, codes, eqb}
+use Rattle.wat_expr.specs.Prelude.{some_is, none_of, none_is_not, SpansAre}
+use Rattle.wat_fields.specs.Prelude.{eqb-true, eq-eqb, Global, IndexModel, flag, one_reads, some_of, by_read, as_lparen, begins_word, begins_lparen, second, Token, Label, label, is_64, RefTypeModel, ref_type, FieldHeadModel, head, Expression, data_memory}
+use Rattle.wat_tokens.specs.Laws.Production.{by_option}
+use Rattle.wat_tokens.specs.Tests.{word_only}
+use Rattle.wat_expr.specs.Expression.{kept_spans, and_span}
 use Rattle.wat_fields.specs.declared.data.DataKind.{DataKind}
 use Rattle.wat_fields.specs.declared.elem.ElemKind.{ElemKind}
 use Rattle.wat_fields.specs.declared.payload.ElemPayload.{ElemPayload}
@@ -85,35 +73,35 @@ module _ {A S : Type 0} where
 
 -- ---- the tokens after one token
 
-pub second_behind : {A : Type 0} (f : Tok → Option A) (test : List Tok → Bool) (t r : List Tok) (v : A) → one_reads f t ≡ Some (v, r) → second test t ≡ test r
+pub second_behind : {A : Type 0} (f : Token → Option A) (test : List Token → Bool) (t r : List Token) (v : A) → one_reads f t ≡ Some (v, r) → second test t ≡ test r
 second_behind {A = A} f test [] r v e = none_is_not {A = A} (v, r) e
 second_behind {A = A} f test (x ∷ t) r v e =
     by_option (f x)
     (λ w k. (let e2 : some_of (w, t) ≡ some_of (v, r) = rw k at e in
-    ap test (ap (λ (u : A × List Tok). u.1) (some_is (w, t) (v, r) e2))))
+    ap test (ap (λ (u : A × List Token). u.1) (some_is (w, t) (v, r) e2))))
     (λ k. (let e2 : none_of {A = A} ≡ some_of (v, r) = rw k at e in none_is_not (v, r) e2))
 
 -- ---- data segments
 
 -- the word after the memory and `(`
-pub offset_behind_memory : (t a b : List Tok) (m : Idx) (u : Unit {0}) → data_memory.reads t ≡ Some (m, a) → one_reads as_lparen a ≡ Some (u, b) → begins_word (codes "offset") b ≡ offset_behind (data_memory.reads t)
+pub offset_behind_memory : (t a b : List Token) (m : IndexModel) (u : Unit {0}) → data_memory.reads t ≡ Some (m, a) → one_reads as_lparen a ≡ Some (u, b) → begins_word (codes "offset") b ≡ offset_behind (data_memory.reads t)
 offset_behind_memory t a b m u e f = rw e (sym (second_behind as_lparen (begins_word (codes "offset")) a b u f))
 
 -- the same after `data id? name?`
-pub offset_behind_front : (t a b : List Tok) (l : Label) → one_reads (word_only (codes "data")) t ≡ Some (tt, a) → label.reads a ≡ Some (l, b) → offset_behind (data_memory.reads b) ≡ offset_behind (data_front.reads t)
+pub offset_behind_front : (t a b : List Token) (l : Label) → one_reads (word_only (codes "data")) t ≡ Some (tt, a) → label.reads a ≡ Some (l, b) → offset_behind (data_memory.reads b) ≡ offset_behind (data_front.reads t)
 unfolding data_front
 offset_behind_front t a b l e f = rw (e, f) (by_read (data_memory.reads b) (λ x k. rw k refl) (λ k. rw k refl))
 
 -- ---- tables
 
 -- the `(` after the type, `(` and `elem`
-pub items_behind_type : (t a b r o w : List Tok) (shared is64 : Bool) (ty : RefTy) (u v : Unit {0}) → (flag (codes "shared")).reads t ≡ Some (shared, a) → is_64.reads a ≡ Some (is64, b) → ref_type.reads b ≡ Some (ty, r) → one_reads as_lparen r ≡ Some (u, o) → one_reads (word_only (codes "elem")) o ≡ Some (v, w)
+pub items_behind_type : (t a b r o w : List Token) (shared is64 : Bool) (ty : RefTypeModel) (u v : Unit {0}) → (flag (codes "shared")).reads t ≡ Some (shared, a) → is_64.reads a ≡ Some (is64, b) → ref_type.reads b ≡ Some (ty, r) → one_reads as_lparen r ≡ Some (u, o) → one_reads (word_only (codes "elem")) o ≡ Some (v, w)
     → begins_lparen w ≡ items_behind (inline_front.reads t)
 unfolding inline_front
 items_behind_type t a b r o w shared is64 ty u v e f g h k =
     rw (e, f, g) (sym (second_behind as_lparen (second begins_lparen) r o u h ∙ second_behind (word_only (codes "elem")) begins_lparen o w v k))
 
 -- the same after `table` and a head
-pub items_behind_front : (t a b : List Tok) (h : FieldHeadTy) → one_reads (word_only (codes "table")) t ≡ Some (tt, a) → head.reads a ≡ Some (h, b) → items_behind (inline_front.reads b) ≡ items_behind (table_front.reads t)
+pub items_behind_front : (t a b : List Token) (h : FieldHeadModel) → one_reads (word_only (codes "table")) t ≡ Some (tt, a) → head.reads a ≡ Some (h, b) → items_behind (inline_front.reads b) ≡ items_behind (table_front.reads t)
 unfolding table_front
 items_behind_front t a b h e f = rw (e, f) (by_read (inline_front.reads b) (λ x k. rw k refl) (λ k. rw k refl))

@@ -1,21 +1,12 @@
 -- Texts as tokens, and the element segments and tables that they spell.
 use Rattle.std.specs.Prelude.{pos, false, List, [], ◌∷◌, ◌++◌, codes, Some, None}
-use Rattle.wat_tokens.specs.Token.{Tok, Keyword, Integer}
-use Rattle.wat_tokens.specs.Index.{number}
-use Rattle.wat_tokens.specs.Spelled.{in_parens, Spelled}
-use Rattle.wat_types.specs.Label.{no_label}
-use Rattle.wat_types.specs.Heap.{abstract_}
-use Rattle.wat_types.specs.Reference.{short}
+use Rattle.wat_links.specs.Prelude.{Spelled, short}
+use Rattle.wat_fields.specs.Prelude.{Token, Keyword, Integer, number, in_parens, no_label, abstract_, no_head, InstructionModel, instr_of, alone, ExpressionModel, ElemModel, declared, elem_of, elem, indices, exprs, ref_func_of, TableModel, table_of, table}
+use Rattle.wat_fields.specs.Elem.{passive, active}
+use Rattle.wat_fields.specs.Table.{normal, inline}
 use Rattle.wat_types.specs.declared.heap.AbstractHeapType.TheVariants as heap_word
-use Rattle.wat_links.specs.FieldHead.{no_head}
 use Rattle.wat_mnemonics.specs.declared.op.Op.TheVariants as word
-use Rattle.wat_instr.specs.Instruction.{Instr, instr_of}
 use Rattle.wat_instr.specs.Operand as operands
-use Rattle.wat_expr.specs.Alone.{alone}
-use Rattle.wat_expr.specs.Expression.{Expr}
-use Rattle.wat_fields.specs.Elem.{ElemTy, passive, declared, active, elem_of, elem}
-use Rattle.wat_fields.specs.Payload.{indices, exprs, ref_func_of}
-use Rattle.wat_fields.specs.Table.{TableFieldTy, normal, inline, table_of, table}
 
 -- `elem declare func 0`
 abbrev pub Declared : Type 0
@@ -32,26 +23,26 @@ OfExternref =
     (table_of no_head (inline (short false heap_word.Extern) false false
     (exprs (short false heap_word.Extern) (ref_func_of (number 0) ∷ []))))
 
-abbrev pub zero_const : Instr
+abbrev pub zero_const : InstructionModel
 zero_const = instr_of word.i32_const (operands.integer (pos 0))
 
-abbrev pub zero_alone : Expr
+abbrev pub zero_alone : ExpressionModel
 zero_alone = alone zero_const
 
-abbrev pub null_func : Instr
+abbrev pub null_func : InstructionModel
 null_func = instr_of word.ref_null (operands.heap (abstract_ false heap_word.Func))
 
 -- `ref.null func`
-abbrev pub null_text : List Tok
+abbrev pub null_text : List Token
 null_text = Keyword (codes "ref.null") ∷ Keyword (codes "func") ∷ []
 
 -- `table 1 funcref (ref.null func)`
-abbrev pub nulls_text : List Tok
+abbrev pub nulls_text : List Token
 nulls_text =
     Keyword (codes "table") ∷ Integer (codes "1") ∷ Keyword (codes "funcref") ∷ in_parens null_text
 
 -- at least one element, and the initial value `ref.null func` for each element
-abbrev pub nulls : TableFieldTy
+abbrev pub nulls : TableModel
 nulls =
     table_of no_head
     (normal (record {
@@ -66,13 +57,13 @@ abbrev pub OfNulls : Type 0
 OfNulls = Spelled table nulls_text nulls
 
 -- `elem funcref (item ref.func 0) (ref.null func)`
-abbrev pub items_text : List Tok
+abbrev pub items_text : List Token
 items_text =
     Keyword (codes "elem") ∷ Keyword (codes "funcref")
     ∷ (in_parens (Keyword (codes "item") ∷ Keyword (codes "ref.func") ∷ Integer (codes "0") ∷ [])
     ++ in_parens null_text)
 
-abbrev pub two_items : ElemTy
+abbrev pub two_items : ElemModel
 two_items =
     elem_of no_label (
       passive,
@@ -85,13 +76,13 @@ abbrev pub OfItems : Type 0
 OfItems = Spelled elem items_text two_items
 
 -- `elem 0 (i32.const 0) 1 2`
-abbrev pub active_text : List Tok
+abbrev pub active_text : List Token
 active_text =
     Keyword (codes "elem") ∷ Integer (codes "0")
     ∷ (in_parens (Keyword (codes "i32.const") ∷ Integer (codes "0") ∷ []) ++ Integer (codes "1")
     ∷ Integer (codes "2") ∷ [])
 
-abbrev pub active_elem : ElemTy
+abbrev pub active_elem : ElemModel
 active_elem =
     elem_of no_label (active (Some (number 0)) zero_alone, indices (number 1 ∷ number 2 ∷ []))
 

@@ -1,22 +1,12 @@
 -- Texts as tokens, and the functions, globals and tags that they spell.
 use Rattle.std.specs.Prelude.{List, [], ◌∷◌, ◌++◌, codes, Some, None}
-use Rattle.wat_tokens.specs.Token.{Tok, Keyword, Id, String}
-use Rattle.wat_tokens.specs.Spelled.{in_parens, Spelled}
+use Rattle.wat_expr.specs.Prelude.{Id, Spelled, plain_global, nop}
+use Rattle.wat_fields.specs.Prelude.{Token, Keyword, String, in_parens, label_of, no_label, use_of, i32, i64, f32, no_head, field_head, alone, inline, func_of, func, global_of, global, local_of, tag_of, tag}
 use Rattle.wat_types.specs.Group.{plain_param, function_of}
-use Rattle.wat_types.specs.Label.{label_of, no_label}
-use Rattle.wat_types.specs.Storage.{plain_global}
-use Rattle.wat_types.specs.Use.{use_of}
-use Rattle.wat_types.specs.Value.{i32, i64, f32}
-use Rattle.wat_links.specs.FieldHead.{no_head, field_head}
-use Rattle.wat_expr.specs.Alone.{alone, nop}
-use Rattle.wat_fields.specs.Func.{inline, func_of, func}
-use Rattle.wat_fields.specs.Global.{global_of, global}
 use Rattle.wat_fields.specs.Global as globals
-use Rattle.wat_fields.specs.Local.{local_of}
-use Rattle.wat_fields.specs.Tag.{tag_of, tag}
 
 -- `(local i32 i64) (local $x f32) nop`
-abbrev pub locals_and_body : List Tok
+abbrev pub locals_and_body : List Token
 locals_and_body =
     in_parens (Keyword (codes "local") ∷ Keyword (codes "i32") ∷ Keyword (codes "i64") ∷ [])
     ++ (in_parens (Keyword (codes "local") ∷ Id (codes "x") ∷ Keyword (codes "f32") ∷ [])

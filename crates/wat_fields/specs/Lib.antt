@@ -33,3 +33,4 @@ pub mod Spans
 pub mod Table
 pub mod Tag
 pub mod VectorBytes
+pub mod Prelude

@@ -1,14 +1,7 @@
 -- Numbers of data segments, as their bytes.
 use Rattle.std.specs.Prelude.{◌≤◌, ℕ, ℤ, Bool, List, codes}
-use Rattle.std.specs.Int.{Width, w8, w16, w32, w64, cast_unsigned, to_le_bytes}
 use Rattle.std.proofs.Common.{lit≤}
-use Rattle.wat_tokens.specs.Token.{Tok}
-use Rattle.wat_tokens.specs.Production.{Production}
-use Rattle.wat_tokens.specs.Parts.{made, where_else, after_word}
-use Rattle.wat_tokens.specs.Joined.{joined}
-use Rattle.wat_tokens.specs.Integers.{signed}
-use Rattle.wat_tokens.specs.Floats.{none}
-use Rattle.wat_tokens.specs.Test.{at_word, at_more, Test, run, either_test, at_group}
+use Rattle.wat_expr.specs.Prelude.{Width, w8, w16, w32, w64, cast_unsigned, to_le_bytes, Token, Production, made, where_else, after_word, joined, signed, none, at_word, at_more, Test, run, either_test, at_group}
 use Rattle.wat_fields.specs.VectorBytes.{vector_as_bytes}
 use Rattle.wat_fields.specs.Laws.Numbers.{vector_consumes}
 
@@ -65,7 +58,7 @@ at_integers =
     either_test (either_test (either_test (at_group (codes "i8")) (at_group (codes "i16")))
     (at_group (codes "i32"))) (at_group (codes "i64"))
 
-abbrev pub begins_integers : List Tok → Bool
+abbrev pub begins_integers : List Token → Bool
 begins_integers t = run at_integers t
 
 -- `(`, and the keyword of a number type
@@ -74,5 +67,5 @@ at_numbers =
     either_test (either_test (either_test at_integers (at_group (codes "f32")))
     (at_group (codes "f64"))) (at_group (codes "v128"))
 
-abbrev pub begins_numbers : List Tok → Bool
+abbrev pub begins_numbers : List Token → Bool
 begins_numbers t = run at_numbers t

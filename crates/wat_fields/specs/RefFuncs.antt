@@ -1,28 +1,23 @@
 -- Indices that are read as expressions of one `ref.func` each. Only contracts of private functions
 -- use these definitions.
 use Rattle.std.specs.Prelude.{List}
-use Rattle.wat_tokens.specs.Production.{Production}
-use Rattle.wat_tokens.specs.Parts.{made}
-use Rattle.wat_tokens.specs.Many.{many}
-use Rattle.wat_tokens.specs.Test.{at_more}
-use Rattle.wat_types.specs.Reference.{RefTy}
-use Rattle.wat_expr.specs.Expression.{Expr}
-use Rattle.wat_fields.specs.Payload.{PayloadTy, indices, exprs, by_index, of_type, index_list}
+use Rattle.wat_expr.specs.Prelude.{Production, made, many, at_more, RefTypeModel, ExpressionModel}
+use Rattle.wat_fields.specs.Payload.{ElemPayloadModel, indices, exprs, by_index, of_type, index_list}
 use Rattle.wat_fields.specs.RefFunc.{ref_func}
 use Rattle.wat_fields.specs.Laws.RefFuncs.{ref_func_consumes}
 
 -- idx*, to the end, each as `ref.func` of that index
-unfoldable pub ref_funcs : Production (List Expr)
+unfoldable pub ref_funcs : Production (List ExpressionModel)
 ref_funcs = many at_more ref_func ref_func_consumes
 
 -- indices, to the end, as a payload of the type
-unfoldable pub indices_of : RefTy → Production PayloadTy
+unfoldable pub indices_of : RefTypeModel → Production ElemPayloadModel
 indices_of ty = made (of_type ty) (made by_index index_list)
 
 -- the same, for the type `funcref`
-unfoldable pub plain_indices : Production PayloadTy
+unfoldable pub plain_indices : Production ElemPayloadModel
 plain_indices = made indices index_list
 
 -- the same, for another type
-unfoldable pub ref_funcs_of : RefTy → Production PayloadTy
+unfoldable pub ref_funcs_of : RefTypeModel → Production ElemPayloadModel
 ref_funcs_of ty = made (λ v. exprs ty v) ref_funcs

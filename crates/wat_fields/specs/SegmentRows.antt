@@ -1,19 +1,11 @@
 -- Texts as tokens, and the memories and data segments that they spell.
 use Rattle.std.specs.Prelude.{true, false, List, [], ◌∷◌, ◌++◌, codes, Some, None}
-use Rattle.wat_tokens.specs.Token.{Tok, Keyword, Integer, String}
-use Rattle.wat_tokens.specs.Index.{number}
-use Rattle.wat_tokens.specs.Spelled.{in_parens, Spelled}
-use Rattle.wat_types.specs.Label.{no_label}
-use Rattle.wat_types.specs.Use.{use_of}
-use Rattle.wat_links.specs.FieldHead.{no_head}
+use Rattle.wat_expr.specs.Prelude.{Spelled, nop}
+use Rattle.wat_fields.specs.Prelude.{Token, Keyword, Integer, String, number, in_parens, no_label, use_of, no_head, InstructionModel, instr_of, DataModel, passive, active, data_of, data_segment, written, numbers, normal, memory_of, memory}
+use Rattle.wat_fields.specs.Memory.{inline}
 use Rattle.wat_mnemonics.specs.declared.op.Op.TheVariants as word
 use Rattle.wat_mnemonics.specs.declared.indexed.BlockOp.TheVariants as block
-use Rattle.wat_instr.specs.Instruction.{Instr, instr_of}
 use Rattle.wat_instr.specs.Operand as operands
-use Rattle.wat_expr.specs.Alone.{nop}
-use Rattle.wat_fields.specs.Data.{DataTy, passive, active, data_of, data_segment}
-use Rattle.wat_fields.specs.DataVal.{written, numbers}
-use Rattle.wat_fields.specs.Memory.{normal, inline, memory_of, memory}
 
 -- `memory i64 (pagesize 1) (data "ab")`: addresses of 64 bits, pages of a byte, two bytes
 abbrev pub InlineMemory : Type 0
@@ -46,18 +38,18 @@ PassiveData =
     ∷ in_parens (Keyword (codes "i16") ∷ Integer (codes "1") ∷ Integer (codes "-1") ∷ []))
     (data_of no_label passive (written (codes "ab") ∷ numbers (1 ∷ 0 ∷ 255 ∷ 255 ∷ []) ∷ []))
 
-abbrev pub plain_block : Instr
+abbrev pub plain_block : InstructionModel
 plain_block =
     instr_of (word.Block block.block)
     (operands.block (record { label = no_label; ty = use_of None None }))
 
 -- `data (block nop)`
-abbrev pub block_text : List Tok
+abbrev pub block_text : List Token
 block_text =
     Keyword (codes "data") ∷ in_parens (Keyword (codes "block") ∷ Keyword (codes "nop") ∷ [])
 
 -- active in memory 0, with the offset `nop` and then `block`
-abbrev pub head_behind_nop : DataTy
+abbrev pub head_behind_nop : DataModel
 head_behind_nop =
     data_of no_label (active (number 0) (record { instrs = nop ∷ plain_block ∷ []; hints = [] })) []
 

@@ -5,31 +5,22 @@
 -- expressions never have spans: the `ref.func` that an index of an inline table becomes, and the
 -- abbreviated offset of a data segment, if the offset is one instruction without operands.
 -- `SpansAre false` means that an expression has no spans.
-use Rattle.std.specs.Prelude.{Bool, true, false, ◌&&◌, ◌||◌, List, [], ◌∷◌, codes, Some, None}
-use Rattle.std.specs.Prelude.{All, IfSome}
-use Rattle.wat_tokens.specs.Token.{Tok}
-use Rattle.wat_tokens.specs.Tests.{begins_word, begins_lparen, second}
-use Rattle.wat_tokens.specs.Index.{Idx}
-use Rattle.wat_tokens.specs.Production.{Production, Read}
-use Rattle.wat_tokens.specs.Parts.{seq, flag, after_word}
-use Rattle.wat_types.specs.Label.{Label, label}
-use Rattle.wat_types.specs.Limits.{is_64}
-use Rattle.wat_types.specs.Reference.{RefTy, ref_type}
-use Rattle.wat_links.specs.FieldHead.{FieldHeadTy, head}
+use Rattle.std.specs.Prelude.{Bool, true, false, ◌&&◌, ◌||◌, List, [], ◌∷◌, codes, Some, None, All, IfSome}
+use Rattle.wat_links.specs.Prelude.{Token, begins_word, begins_lparen, second, IndexModel, Production, Read, seq, flag, after_word, Label, label, is_64, RefTypeModel, ref_type, FieldHeadModel, head}
 use Rattle.wat_expr.specs.Expression.{SpansAre}
 use Rattle.wat_expr.specs.declared.expression.Expression.{Expression}
 use Rattle.wat_fields.specs.Data.{data_memory}
 use Rattle.wat_fields.specs.declared.data.DataKind.{DataKind}
-use Rattle.wat_fields.specs.declared.data.DataKind.TheVariants as data_code
 use Rattle.wat_fields.specs.declared.elem.ElemKind.{ElemKind}
-use Rattle.wat_fields.specs.declared.elem.ElemKind.TheVariants as elem_code
 use Rattle.wat_fields.specs.declared.func.FuncKind.{FuncKind}
-use Rattle.wat_fields.specs.declared.func.FuncKind.TheVariants as func_code
 use Rattle.wat_fields.specs.declared.global.GlobalKind.{GlobalKind}
-use Rattle.wat_fields.specs.declared.global.GlobalKind.TheVariants as global_code
 use Rattle.wat_fields.specs.declared.payload.ElemPayload.{ElemPayload}
-use Rattle.wat_fields.specs.declared.payload.ElemPayload.TheVariants as payload_code
 use Rattle.wat_fields.specs.declared.table.TableKind.{TableKind}
+use Rattle.wat_fields.specs.declared.data.DataKind.TheVariants as data_code
+use Rattle.wat_fields.specs.declared.elem.ElemKind.TheVariants as elem_code
+use Rattle.wat_fields.specs.declared.func.FuncKind.TheVariants as func_code
+use Rattle.wat_fields.specs.declared.global.GlobalKind.TheVariants as global_code
+use Rattle.wat_fields.specs.declared.payload.ElemPayload.TheVariants as payload_code
 use Rattle.wat_fields.specs.declared.table.TableKind.TheVariants as table_code
 
 -- ---- functions and globals
@@ -71,11 +62,11 @@ offset_behind (Some x) = second (begins_word (codes "offset")) x.1
 offset_behind None = false
 
 -- a data segment up to its offset: `data id? name?` and a memory
-unfoldable pub data_front : Production (Label × Idx)
+unfoldable pub data_front : Production (Label × IndexModel)
 data_front = after_word (codes "data") (seq label data_memory)
 
 -- the offset of the data segment is written with the word `offset`
-abbrev pub is_offset_written : List Tok → Bool
+abbrev pub is_offset_written : List Token → Bool
 is_offset_written t = offset_behind (data_front.reads t)
 
 -- ---- the contents of element segments
@@ -110,13 +101,13 @@ items_behind (Some x) = second (second begins_lparen) x.1
 items_behind None = false
 
 -- a table with inline elements, from after its head up to `( elem`
-unfoldable pub inline_front : Production (Bool × (Bool × RefTy))
+unfoldable pub inline_front : Production (Bool × (Bool × RefTypeModel))
 inline_front = seq (flag (codes "shared")) (seq is_64 ref_type)
 
 -- a table with inline elements, up to `( elem`
-unfoldable pub table_front : Production (FieldHeadTy × (Bool × (Bool × RefTy)))
+unfoldable pub table_front : Production (FieldHeadModel × (Bool × (Bool × RefTypeModel)))
 table_front = after_word (codes "table") (seq head inline_front)
 
 -- after `( elem` items are listed, which begin with `(`
-abbrev pub has_items : List Tok → Bool
+abbrev pub has_items : List Token → Bool
 has_items t = items_behind (table_front.reads t)

@@ -1,13 +1,8 @@
 //! Data segments.
 
 ghost use Rattle.std.specs.Prelude.{◌≡◌, IfOk};
-ghost use Rattle.wat_tokens.specs.Cost.{turns_too};
-ghost use Rattle.wat_tokens.specs.Index.{index_view};
-ghost use Rattle.wat_tokens.specs.Reads.{Reads, ReadsAt};
-ghost use Rattle.wat_tokens.specs.Views.{plain, owning};
-ghost use Rattle.wat_fields.specs.Data.{data_kind_view, bare_data_kind, begins_passive};
-ghost use Rattle.wat_fields.specs.Data.{data_memory, data_active, data_kind, DataTy, data_view};
-ghost use Rattle.wat_fields.specs.Data.{bare_data, data_segment};
+ghost use Rattle.wat_links.specs.Prelude.{turns_too, index_view, Reads, ReadsAt, plain, owning};
+ghost use Rattle.wat_fields.specs.Data.{data_kind_view, heapless_data_kind, begins_passive, data_memory, data_active, data_kind, DataModel, data_view, heapless_data, data_segment};
 ghost use Rattle.wat_fields.specs.Spans.{DataSpansAre, offset_behind, is_offset_written};
 
 use crate::data_val::{DataVal, read_vals};
@@ -79,7 +74,7 @@ fn passive_next(parser: &Parser<'_>) -> bool
 /// Parses a memory and an offset.
 #[tactic(auto, unfolding(crate::specs::Data::data_active))]
 fn read_active<'a>(parser: &mut Parser<'a>, span: Span) -> Result<DataKind<'a>>
-    ensures reads { ReadsAt turns_too (owning data_kind_view bare_data_kind) data_active result
+    ensures reads { ReadsAt turns_too (owning data_kind_view heapless_data_kind) data_active result
         parser.old parser.new }
     ensures spans { IfOk result (λ k. DataSpansAre (offset_behind
         (data_memory.reads parser.old.left)) parser.old.tracks k) }
@@ -95,7 +90,7 @@ fn read_active<'a>(parser: &mut Parser<'a>, span: Span) -> Result<DataKind<'a>>
 /// offset.
 #[tactic(auto, unfolding(crate::specs::Data::data_kind))]
 fn read_data_kind<'a>(parser: &mut Parser<'a>, span: Span) -> Result<DataKind<'a>>
-    ensures reads { ReadsAt turns_too (owning data_kind_view bare_data_kind) data_kind result
+    ensures reads { ReadsAt turns_too (owning data_kind_view heapless_data_kind) data_kind result
         parser.old parser.new }
     ensures spans { IfOk result (λ k. DataSpansAre (offset_behind
         (data_memory.reads parser.old.left)) parser.old.tracks k) }
@@ -122,9 +117,9 @@ fn read_data_kind<'a>(parser: &mut Parser<'a>, span: Span) -> Result<DataKind<'a
 /// instruction's keyword and another token is next; the errors of [`Expression`] and of
 /// [`DataVal`]; Memory; and Unexpected for anything else.
 impl<'a> Parse<'a> for Data<'a> {
-    ghost View = { DataTy };
+    ghost View = { DataModel };
 
-    ghost view = { owning data_view bare_data };
+    ghost view = { owning data_view heapless_data };
 
     ghost cost = { turns_too };
 
@@ -132,7 +127,7 @@ impl<'a> Parse<'a> for Data<'a> {
 
     #[tactic(auto, unfolding(crate::specs::Data::data_segment))]
     fn parse(parser: &mut Parser<'a>) -> Result<Self>
-        ensures reads { ReadsAt turns_too (owning data_view bare_data) data_segment result
+        ensures reads { ReadsAt turns_too (owning data_view heapless_data) data_segment result
             parser.old parser.new }
         ensures spans { IfOk result (λ d. DataSpansAre (is_offset_written parser.old.left)
             parser.old.tracks d.kind) }

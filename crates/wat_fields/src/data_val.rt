@@ -1,10 +1,8 @@
 //! Values of data segments.
 
 ghost use Rattle.std.specs.Prelude.{◌≡◌, ◌+◌, ◌++◌, length, false, IfOk, IfErr, MatchResult};
-ghost use Rattle.wat_tokens.specs.Reads.{Reads};
-ghost use Rattle.wat_tokens.specs.Views.{owning, no_items};
-ghost use Rattle.wat_fields.specs.DataVal.{DataValTy, bytes_in, data_val_view, data_vals_view};
-ghost use Rattle.wat_fields.specs.DataVal.{bare_val, data_val};
+ghost use Rattle.wat_links.specs.Prelude.{Reads, owning, no_items};
+ghost use Rattle.wat_fields.specs.DataVal.{DataValModel, bytes_in, data_val_view, data_vals_view, heapless_val, data_val};
 ghost use Rattle.wat_fields.specs.DataVals.{data_vals};
 
 use crate::numbers::{append, read_numbers};
@@ -71,9 +69,9 @@ impl<'a> DataVal<'a> {
 /// the errors of [`V128Const`](wat_operands::V128Const); Memory, but never for a string or a group
 /// without numbers; and Unexpected for anything else.
 impl<'a> Parse<'a> for DataVal<'a> {
-    ghost View = { DataValTy };
+    ghost View = { DataValModel };
 
-    ghost view = { owning data_val_view bare_val };
+    ghost view = { owning data_val_view heapless_val };
 
     ghost grammar = { data_val };
 

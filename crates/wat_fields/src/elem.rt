@@ -1,15 +1,8 @@
 //! Element segments.
 
 ghost use Rattle.std.specs.Prelude.{◌≡◌, IfOk};
-ghost use Rattle.wat_tokens.specs.Cost.{turns_too};
-ghost use Rattle.wat_tokens.specs.Index.{index_view};
-ghost use Rattle.wat_tokens.specs.Reads.{Reads, ReadsAt};
-ghost use Rattle.wat_tokens.specs.Views.{plain, owning, option_view};
-ghost use Rattle.wat_expr.specs.Expression.{expression_view, bare_expression, SpansAre};
-ghost use Rattle.wat_fields.specs.Elem.{segment_view, bare_segment, elem_offset, in_table};
-ghost use Rattle.wat_fields.specs.Elem.{table_number, in_some_table, declared_segment};
-ghost use Rattle.wat_fields.specs.Elem.{passive_segment, begins_active, active_segment, segment};
-ghost use Rattle.wat_fields.specs.Elem.{ElemTy, elem_view, bare_elem, elem};
+ghost use Rattle.wat_expr.specs.Prelude.{turns_too, index_view, Reads, ReadsAt, plain, owning, option_view, expression_view, heapless_expression, SpansAre};
+ghost use Rattle.wat_fields.specs.Elem.{segment_view, heapless_segment, elem_offset, in_table, table_number, in_some_table, declared_segment, passive_segment, begins_active, active_segment, segment, ElemModel, elem_view, heapless_elem, elem};
 ghost use Rattle.wat_fields.specs.Spans.{ElemSpansAre};
 
 use crate::payload::{ElemPayload, read_payload, read_payload_or_indices, read_written_or_folded};
@@ -58,7 +51,8 @@ type Segment<'a> = (ElemKind<'a>, ElemPayload<'a>);
 /// Parses `( offset Expression )` if the second token is `offset`, otherwise a folded instruction.
 #[tactic(auto, unfolding(crate::specs::Elem::elem_offset))]
 fn read_offset<'a>(parser: &mut Parser<'a>) -> Result<Expression<'a>>
-    ensures reads { ReadsAt turns_too (owning expression_view bare_expression) elem_offset result
+    ensures reads { ReadsAt turns_too (owning expression_view heapless_expression) elem_offset
+        result
         parser.old parser.new }
     ensures spans { IfOk result (λ e. SpansAre parser.old.tracks e) }
 {
@@ -68,7 +62,8 @@ fn read_offset<'a>(parser: &mut Parser<'a>) -> Result<Expression<'a>>
 /// Parses `( table idx )`, an offset and a payload.
 #[tactic(auto, unfolding(crate::specs::Elem::in_table))]
 fn read_in_table<'a>(parser: &mut Parser<'a>) -> Result<Segment<'a>>
-    ensures reads { ReadsAt turns_too (owning segment_view bare_segment) in_table result parser.old
+    ensures reads { ReadsAt turns_too (owning segment_view heapless_segment) in_table result
+        parser.old
         parser.new }
     ensures spans { IfOk result (λ s. ElemSpansAre parser.old.tracks s) }
 {
@@ -94,7 +89,7 @@ fn read_table_number<'a>(parser: &mut Parser<'a>, span: Span) -> Result<Option<I
 /// Parses the number of a table or nothing, an offset, and a payload, which can be indices alone.
 #[tactic(auto, unfolding(crate::specs::Elem::in_some_table))]
 fn read_in_some_table<'a>(parser: &mut Parser<'a>, span: Span) -> Result<Segment<'a>>
-    ensures reads { ReadsAt turns_too (owning segment_view bare_segment) in_some_table result
+    ensures reads { ReadsAt turns_too (owning segment_view heapless_segment) in_some_table result
         parser.old parser.new }
     ensures spans { IfOk result (λ s. ElemSpansAre parser.old.tracks s) }
 {
@@ -107,7 +102,7 @@ fn read_in_some_table<'a>(parser: &mut Parser<'a>, span: Span) -> Result<Segment
 /// Parses the contents of an active segment.
 #[tactic(auto, unfolding(crate::specs::Elem::active_segment))]
 fn read_active<'a>(parser: &mut Parser<'a>, span: Span) -> Result<Segment<'a>>
-    ensures reads { ReadsAt turns_too (owning segment_view bare_segment) active_segment result
+    ensures reads { ReadsAt turns_too (owning segment_view heapless_segment) active_segment result
         parser.old parser.new }
     ensures spans { IfOk result (λ s. ElemSpansAre parser.old.tracks s) }
 {
@@ -120,7 +115,7 @@ fn read_active<'a>(parser: &mut Parser<'a>, span: Span) -> Result<Segment<'a>>
 /// Parses `declare` and a payload.
 #[tactic(auto, unfolding(crate::specs::Elem::declared_segment))]
 fn read_declared<'a>(parser: &mut Parser<'a>) -> Result<Segment<'a>>
-    ensures reads { ReadsAt turns_too (owning segment_view bare_segment) declared_segment result
+    ensures reads { ReadsAt turns_too (owning segment_view heapless_segment) declared_segment result
         parser.old parser.new }
     ensures spans { IfOk result (λ s. ElemSpansAre parser.old.tracks s) }
 {
@@ -132,7 +127,7 @@ fn read_declared<'a>(parser: &mut Parser<'a>) -> Result<Segment<'a>>
 /// Parses a payload alone.
 #[tactic(auto, unfolding(crate::specs::Elem::passive_segment))]
 fn read_passive<'a>(parser: &mut Parser<'a>) -> Result<Segment<'a>>
-    ensures reads { ReadsAt turns_too (owning segment_view bare_segment) passive_segment result
+    ensures reads { ReadsAt turns_too (owning segment_view heapless_segment) passive_segment result
         parser.old parser.new }
     ensures spans { IfOk result (λ s. ElemSpansAre parser.old.tracks s) }
 {
@@ -153,7 +148,8 @@ fn active_next(parser: &Parser<'_>) -> bool
 /// Parses the mode and the elements of a segment. `span` is the place of the keyword `elem`.
 #[tactic(auto, unfolding(crate::specs::Elem::segment))]
 fn read_segment<'a>(parser: &mut Parser<'a>, span: Span) -> Result<Segment<'a>>
-    ensures reads { ReadsAt turns_too (owning segment_view bare_segment) segment result parser.old
+    ensures reads { ReadsAt turns_too (owning segment_view heapless_segment) segment result
+        parser.old
         parser.new }
     ensures spans { IfOk result (λ s. ElemSpansAre parser.old.tracks s) }
 {
@@ -185,9 +181,9 @@ fn read_segment<'a>(parser: &mut Parser<'a>, span: Span) -> Result<Segment<'a>>
 /// Operator if an instruction's keyword is needed and another token is next; the errors of
 /// [`Expression`] and of a reference type; Memory; and Unexpected for anything else.
 impl<'a> Parse<'a> for Elem<'a> {
-    ghost View = { ElemTy };
+    ghost View = { ElemModel };
 
-    ghost view = { owning elem_view bare_elem };
+    ghost view = { owning elem_view heapless_elem };
 
     ghost cost = { turns_too };
 
@@ -195,7 +191,7 @@ impl<'a> Parse<'a> for Elem<'a> {
 
     #[tactic(auto, unfolding(crate::specs::Elem::elem))]
     fn parse(parser: &mut Parser<'a>) -> Result<Self>
-        ensures reads { ReadsAt turns_too (owning elem_view bare_elem) elem result parser.old
+        ensures reads { ReadsAt turns_too (owning elem_view heapless_elem) elem result parser.old
             parser.new }
         ensures spans { IfOk result (λ e. ElemSpansAre parser.old.tracks (e.kind, e.payload)) }
     {

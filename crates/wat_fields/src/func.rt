@@ -1,12 +1,8 @@
 //! Functions.
 
-ghost use Rattle.std.specs.Prelude.{◌≡◌, IfOk};
-ghost use Rattle.wat_tokens.specs.Cost.{turns_too};
-ghost use Rattle.wat_tokens.specs.Reads.{Reads, ReadsAt};
-ghost use Rattle.wat_fields.specs.Func.{FuncFieldTy};
-ghost use Rattle.wat_tokens.specs.Views.{owning};
-ghost use Rattle.wat_fields.specs.Func.{defined_func_view, bare_defined_func, func_import};
-ghost use Rattle.wat_fields.specs.Func.{func_inline, func_defined, func_view, bare_func, func};
+ghost use Rattle.std.specs.Prelude.{IfOk};
+ghost use Rattle.wat_links.specs.Prelude.{turns_too, Reads, ReadsAt, owning};
+ghost use Rattle.wat_fields.specs.Func.{FuncModel, defined_func_view, heapless_defined_func, func_import, func_inline, func_defined, func_view, heapless_func, func};
 ghost use Rattle.wat_fields.specs.Spans.{FuncSpansAre};
 
 use crate::local::Local;
@@ -53,7 +49,8 @@ type Defined<'a> = (TypeUse<'a, FunctionType<'a>>, FuncKind<'a>);
 /// Parses an inline import, and a type use, exact or not.
 #[tactic(auto, unfolding(crate::specs::Func::func_import))]
 fn read_import<'a>(parser: &mut Parser<'a>) -> Result<Defined<'a>>
-    ensures reads { Reads (owning defined_func_view bare_defined_func) func_import result parser.old
+    ensures reads { Reads (owning defined_func_view heapless_defined_func) func_import result
+        parser.old
         parser.new }
     ensures spans { IfOk result (λ d. FuncSpansAre parser.old.tracks d.1) }
 {
@@ -65,7 +62,7 @@ fn read_import<'a>(parser: &mut Parser<'a>) -> Result<Defined<'a>>
 /// Parses a type use, locals and a body.
 #[tactic(auto, unfolding(crate::specs::Func::func_inline))]
 fn read_inline<'a>(parser: &mut Parser<'a>) -> Result<Defined<'a>>
-    ensures reads { ReadsAt turns_too (owning defined_func_view bare_defined_func) func_inline
+    ensures reads { ReadsAt turns_too (owning defined_func_view heapless_defined_func) func_inline
         result parser.old parser.new }
     ensures spans { IfOk result (λ d. FuncSpansAre parser.old.tracks d.1) }
 {
@@ -78,7 +75,7 @@ fn read_inline<'a>(parser: &mut Parser<'a>) -> Result<Defined<'a>>
 /// Parses the type and the definition of a function, after its head.
 #[tactic(auto, unfolding(crate::specs::Func::func_defined))]
 fn read_defined<'a>(parser: &mut Parser<'a>) -> Result<Defined<'a>>
-    ensures reads { ReadsAt turns_too (owning defined_func_view bare_defined_func) func_defined
+    ensures reads { ReadsAt turns_too (owning defined_func_view heapless_defined_func) func_defined
         result parser.old parser.new }
     ensures spans { IfOk result (λ d. FuncSpansAre parser.old.tracks d.1) }
 {
@@ -103,9 +100,9 @@ fn read_defined<'a>(parser: &mut Parser<'a>) -> Result<Defined<'a>>
 /// come the errors of an [`Expression`]: a group of another kind is the error Operator, at its
 /// keyword.
 impl<'a> Parse<'a> for Func<'a> {
-    ghost View = { FuncFieldTy };
+    ghost View = { FuncModel };
 
-    ghost view = { owning func_view bare_func };
+    ghost view = { owning func_view heapless_func };
 
     ghost cost = { turns_too };
 
@@ -113,7 +110,7 @@ impl<'a> Parse<'a> for Func<'a> {
 
     #[tactic(auto, unfolding(crate::specs::Func::func))]
     fn parse(parser: &mut Parser<'a>) -> Result<Self>
-        ensures reads { ReadsAt turns_too (owning func_view bare_func) func result parser.old
+        ensures reads { ReadsAt turns_too (owning func_view heapless_func) func result parser.old
             parser.new }
         ensures spans { IfOk result (λ f. FuncSpansAre parser.old.tracks f.kind) }
     {

@@ -1,11 +1,8 @@
 //! Globals.
 
-ghost use Rattle.std.specs.Prelude.{◌≡◌, IfOk};
-ghost use Rattle.wat_tokens.specs.Cost.{turns_too};
-ghost use Rattle.wat_tokens.specs.Reads.{ReadsAt};
-ghost use Rattle.wat_tokens.specs.Views.{owning};
-ghost use Rattle.wat_fields.specs.Global.{GlobalFieldTy, defined_global_view, bare_defined_global};
-ghost use Rattle.wat_fields.specs.Global.{global_defined, global_view, bare_global, global};
+ghost use Rattle.std.specs.Prelude.{IfOk};
+ghost use Rattle.wat_links.specs.Prelude.{turns_too, ReadsAt, owning};
+ghost use Rattle.wat_fields.specs.Global.{GlobalModel, defined_global_view, heapless_defined_global, global_defined, global_view, heapless_global, global};
 ghost use Rattle.wat_fields.specs.Spans.{GlobalSpansAre};
 
 use wat_expr::Expression;
@@ -42,7 +39,7 @@ pub enum GlobalKind<'a> {
 /// Parses the type and the definition of a global, after the head.
 #[tactic(auto, unfolding(crate::specs::Global::global_defined))]
 fn read_defined<'a>(parser: &mut Parser<'a>) -> Result<(GlobalType<'a>, GlobalKind<'a>)>
-    ensures reads { ReadsAt turns_too (owning defined_global_view bare_defined_global)
+    ensures reads { ReadsAt turns_too (owning defined_global_view heapless_defined_global)
         global_defined result parser.old parser.new }
     ensures spans { IfOk result (λ d. GlobalSpansAre parser.old.tracks d.1) }
 {
@@ -65,9 +62,9 @@ fn read_defined<'a>(parser: &mut Parser<'a>) -> Result<(GlobalType<'a>, GlobalKi
 /// come the errors of an [`Expression`]: an inline import there is the error Operator, at the
 /// keyword `import`.
 impl<'a> Parse<'a> for Global<'a> {
-    ghost View = { GlobalFieldTy };
+    ghost View = { GlobalModel };
 
-    ghost view = { owning global_view bare_global };
+    ghost view = { owning global_view heapless_global };
 
     ghost cost = { turns_too };
 
@@ -75,7 +72,8 @@ impl<'a> Parse<'a> for Global<'a> {
 
     #[tactic(auto, unfolding(crate::specs::Global::global))]
     fn parse(parser: &mut Parser<'a>) -> Result<Self>
-        ensures reads { ReadsAt turns_too (owning global_view bare_global) global result parser.old
+        ensures reads { ReadsAt turns_too (owning global_view heapless_global) global result
+            parser.old
             parser.new }
         ensures spans { IfOk result (λ g. GlobalSpansAre parser.old.tracks g.kind) }
     {

@@ -1,14 +1,9 @@
 //! Locals of functions.
 
-ghost use Rattle.std.specs.Prelude.{◌≡◌, List};
-ghost use Rattle.wat_tokens.specs.Cost.{tokens_alone};
-ghost use Rattle.wat_tokens.specs.Many.{after_front, Extends};
-ghost use Rattle.wat_tokens.specs.Reads.{Call, Reads};
-ghost use Rattle.wat_tokens.specs.Tests.{more};
-ghost use Rattle.wat_tokens.specs.Views.{plain, owning, no_items};
-ghost use Rattle.wat_fields.specs.Local.{LocalTy, local_view, locals_view, local_parser_view};
-ghost use Rattle.wat_fields.specs.Local.{plain_local, labelled_local, listed_locals, local_parser};
-ghost use Rattle.wat_fields.specs.Local.{local_group, local_follows};
+ghost use Rattle.std.specs.Prelude.{List};
+ghost use Rattle.wat_links.specs.Prelude.{tokens_alone, after_front, Call, Reads, more, plain, owning, no_items};
+ghost use Rattle.wat_tokens.specs.Many.{Extends};
+ghost use Rattle.wat_fields.specs.Local.{LocalModel, local_view, locals_view, local_parser_view, plain_local, labelled_local, listed_locals, local_parser, local_group, local_follows};
 ghost use Rattle.wat_fields.specs.Locals.{locals};
 
 use wat_tokens::repeat::{Group, Part, all_groups, parts};
@@ -38,7 +33,7 @@ pub struct LocalParser<'a> {
 struct PlainLocal;
 
 impl<'a> Part<'a, Local<'a>> for PlainLocal {
-    ghost View = { LocalTy };
+    ghost View = { LocalModel };
 
     ghost view = { plain local_view };
 
@@ -95,7 +90,7 @@ fn read_listed<'a>(parser: &mut Parser<'a>, out: &mut Vec<Local<'a>>) -> Result<
 ///
 /// The errors: Unexpected if the next token isn't `local`; the errors of the parts.
 impl<'a> Parse<'a> for LocalParser<'a> {
-    ghost View = { List LocalTy };
+    ghost View = { List LocalModel };
 
     ghost view = { owning local_parser_view no_items };
 
@@ -114,7 +109,7 @@ impl<'a> Parse<'a> for LocalParser<'a> {
 struct LocalGroup;
 
 impl<'a> Group<'a, Local<'a>> for LocalGroup {
-    ghost View = { LocalTy };
+    ghost View = { LocalModel };
 
     ghost view = { plain local_view };
 

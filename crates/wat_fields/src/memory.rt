@@ -1,11 +1,8 @@
 //! Memories.
 
 ghost use Rattle.std.specs.Prelude.{◌≡◌};
-ghost use Rattle.wat_tokens.specs.Reads.{Reads};
-ghost use Rattle.wat_tokens.specs.Views.{owning};
-ghost use Rattle.wat_fields.specs.Memory.{MemoryTy, memory_kind_view, bare_memory_kind};
-ghost use Rattle.wat_fields.specs.Memory.{inline_memory, memory_kind, begins_inline_data};
-ghost use Rattle.wat_fields.specs.Memory.{memory_view, bare_memory, memory};
+ghost use Rattle.wat_links.specs.Prelude.{Reads, owning};
+ghost use Rattle.wat_fields.specs.Memory.{MemoryModel, memory_kind_view, heapless_memory_kind, inline_memory, memory_kind, begins_inline_data, memory_view, heapless_memory, memory};
 
 use crate::data_val::{DataVal, read_vals};
 use wat_links::{FieldHead, InlineExport, InlineImport};
@@ -70,7 +67,8 @@ fn inline_next(parser: &Parser<'_>) -> bool
 /// `( data` values `)`.
 #[tactic(auto, unfolding(crate::specs::Memory::inline_memory))]
 fn read_inline<'a>(parser: &mut Parser<'a>) -> Result<MemoryKind<'a>>
-    ensures reads { Reads (owning memory_kind_view bare_memory_kind) inline_memory result parser.old
+    ensures reads { Reads (owning memory_kind_view heapless_memory_kind) inline_memory result
+        parser.old
         parser.new }
 {
     let is64 = take_is64(parser)?;
@@ -89,7 +87,8 @@ fn read_inline<'a>(parser: &mut Parser<'a>) -> Result<MemoryKind<'a>>
 /// Parses the definition of a memory, after its head.
 #[tactic(auto, unfolding(crate::specs::Memory::memory_kind))]
 fn read_memory_kind<'a>(parser: &mut Parser<'a>) -> Result<MemoryKind<'a>>
-    ensures reads { Reads (owning memory_kind_view bare_memory_kind) memory_kind result parser.old
+    ensures reads { Reads (owning memory_kind_view heapless_memory_kind) memory_kind result
+        parser.old
         parser.new }
 {
     if parser.peek::<InlineImport>() {
@@ -113,9 +112,9 @@ fn read_memory_kind<'a>(parser: &mut Parser<'a>) -> Result<MemoryKind<'a>>
 /// The errors: Range at a number that is out of range; PageSize at a page size that isn't a power
 /// of two; the errors of [`DataVal`]; Memory; and Unexpected for anything else.
 impl<'a> Parse<'a> for Memory<'a> {
-    ghost View = { MemoryTy };
+    ghost View = { MemoryModel };
 
-    ghost view = { owning memory_view bare_memory };
+    ghost view = { owning memory_view heapless_memory };
 
     ghost grammar = { memory };
 

@@ -1,13 +1,8 @@
 //! Numbers of data segments, as their bytes.
 
 ghost use Rattle.std.specs.Prelude.{◌≡◌, ◌++◌, ℕ, false, IfErr, MatchResult};
-ghost use Rattle.std.specs.Int.{w8, w16, w32, w64};
-ghost use Rattle.wat_tokens.specs.Reads.{Reads};
-ghost use Rattle.wat_tokens.specs.Tests.{more};
-ghost use Rattle.wat_tokens.specs.Views.{plain, owning, no_items};
-ghost use Rattle.wat_fields.specs.Numbers.{integer_as_bytes, float_as_bytes, other_numbers};
-ghost use Rattle.wat_fields.specs.Numbers.{wide_numbers, number_list, begins_integers};
-ghost use Rattle.wat_fields.specs.Numbers.{begins_numbers};
+ghost use Rattle.wat_links.specs.Prelude.{w8, w16, w32, w64, Reads, more, plain, owning, no_items};
+ghost use Rattle.wat_fields.specs.Numbers.{integer_as_bytes, float_as_bytes, other_numbers, wide_numbers, number_list, begins_integers, begins_numbers};
 ghost use Rattle.wat_fields.specs.VectorBytes.{vector_as_bytes};
 
 use wat_operands::V128Const;

@@ -1,13 +1,7 @@
 //! The offset of an active data segment.
 
 ghost use Rattle.std.specs.Prelude.{false, ◌&&◌, codes, IfOk};
-ghost use Rattle.wat_tokens.specs.Cost.{turns_too};
-ghost use Rattle.wat_expr.specs.Expression.{expression_view, bare_expression, SpansAre};
-ghost use Rattle.wat_expr.specs.ExpressionProduction.{expression};
-ghost use Rattle.wat_tokens.specs.Parts.{seq};
-ghost use Rattle.wat_tokens.specs.Reads.{ReadsAt};
-ghost use Rattle.wat_tokens.specs.Tests.{begins_word};
-ghost use Rattle.wat_tokens.specs.Views.{owning};
+ghost use Rattle.wat_expr.specs.Prelude.{turns_too, expression_view, heapless_expression, SpansAre, expression, seq, ReadsAt, begins_word, owning};
 ghost use Rattle.wat_fields.specs.Offset.{head_last, offset_inside};
 ghost use Rattle.wat_fields.specs.Spans.{OffsetSpansAre};
 
@@ -23,7 +17,8 @@ fn read_before_items<'a, T: Parse<'a> + Drop>(
     parser: &mut Parser<'a>,
 ) -> Result<(T, Expression<'a>)>
     ensures reads { ReadsAt turns_too (owning (λ v. (T.view.of v.0, expression_view v.1))
-        (λ v. T.view.bare v.0 && bare_expression v.1)) (seq T.grammar expression) result parser.old
+        (λ v. T.view.heapless v.0 && heapless_expression v.1)) (seq T.grammar expression) result
+        parser.old
         parser.new }
     ensures spans { IfOk result (λ v. SpansAre parser.old.tracks v.1) }
 {
@@ -35,9 +30,9 @@ fn read_before_items<'a, T: Parse<'a> + Drop>(
 /// Parses an instruction and items, up to the end of the group. In the expression the instruction
 /// comes after the instructions of the items, and its span after their spans. Without items, the
 /// expression has one instruction and no spans.
-#[tactic(auto, using(crate::proofs::Heads::never_bare), unfolding(crate::specs::Offset::head_last))]
+#[tactic(auto, using(crate::proofs::Heads::never_heapless), unfolding(crate::specs::Offset::head_last))]
 fn read_head_last<'a>(parser: &mut Parser<'a>) -> Result<Expression<'a>>
-    ensures reads { ReadsAt turns_too (owning expression_view bare_expression) head_last result
+    ensures reads { ReadsAt turns_too (owning expression_view heapless_expression) head_last result
         parser.old parser.new }
     ensures spans { IfOk result (λ e. OffsetSpansAre false parser.old.tracks e) }
 {
@@ -54,7 +49,8 @@ fn read_head_last<'a>(parser: &mut Parser<'a>) -> Result<Expression<'a>>
 /// instruction and items.
 #[tactic(auto, unfolding(crate::specs::Offset::offset_inside))]
 pub(crate) fn read_offset<'a>(parser: &mut Parser<'a>) -> Result<Expression<'a>>
-    ensures reads { ReadsAt turns_too (owning expression_view bare_expression) offset_inside result
+    ensures reads { ReadsAt turns_too (owning expression_view heapless_expression) offset_inside
+        result
         parser.old parser.new }
     ensures spans { IfOk result (λ e. OffsetSpansAre (begins_word (codes "offset") parser.old.left)
         parser.old.tracks e) }

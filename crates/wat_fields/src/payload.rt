@@ -1,17 +1,8 @@
 //! The elements of an element segment.
 
 ghost use Rattle.std.specs.Prelude.{◌≡◌, ◌&&◌, false, map, All, IfOk, IfErr};
-ghost use Rattle.wat_tokens.specs.Cost.{tokens_alone, turns_too};
-ghost use Rattle.wat_tokens.specs.Index.{index_view};
-ghost use Rattle.wat_tokens.specs.Parts.{made};
-ghost use Rattle.wat_tokens.specs.Reads.{Reads, ReadsAt};
-ghost use Rattle.wat_tokens.specs.Tests.{begins_lparen};
-ghost use Rattle.wat_tokens.specs.Views.{owning, no_items};
-ghost use Rattle.wat_types.specs.Reference.{ref_view};
-ghost use Rattle.wat_expr.specs.Expression.{Expr, expression_view, bare_expression, SpansAre};
-ghost use Rattle.wat_fields.specs.Payload.{payload_view, bare_payload, item_list, index_list};
-ghost use Rattle.wat_fields.specs.Payload.{ref_func_of, is_funcref, of_type, listed, typed_elems};
-ghost use Rattle.wat_fields.specs.Payload.{payload, payload_or_indices};
+ghost use Rattle.wat_expr.specs.Prelude.{tokens_alone, turns_too, index_view, made, Reads, ReadsAt, begins_lparen, owning, no_items, ref_view, ExpressionModel, expression_view, heapless_expression, SpansAre};
+ghost use Rattle.wat_fields.specs.Payload.{payload_view, heapless_payload, item_list, index_list, ref_func_of, is_funcref, of_type, elem_list, typed_elems, payload, payload_or_indices};
 ghost use Rattle.wat_fields.specs.Item.{written_or_folded, item};
 ghost use Rattle.wat_fields.specs.RefFuncs.{ref_funcs_of, plain_indices, indices_of};
 ghost use Rattle.wat_fields.specs.RefFunc.{ref_func};
@@ -46,7 +37,7 @@ pub(crate) fn read_written_or_folded<'a>(
     parser: &mut Parser<'a>,
     word: &str,
 ) -> Result<Expression<'a>>
-    ensures reads { ReadsAt turns_too (owning expression_view bare_expression)
+    ensures reads { ReadsAt turns_too (owning expression_view heapless_expression)
         (written_or_folded word.now) result parser.old parser.new }
     ensures spans { IfOk result (λ e. SpansAre parser.old.tracks e) }
 {
@@ -64,9 +55,9 @@ pub(crate) fn read_written_or_folded<'a>(
 struct Item;
 
 impl<'a> Spanned<'a, Expression<'a>> for Item {
-    ghost View = { Expr };
+    ghost View = { ExpressionModel };
 
-    ghost view = { owning expression_view bare_expression };
+    ghost view = { owning expression_view heapless_expression };
 
     ghost cost = { turns_too };
 
@@ -112,9 +103,9 @@ fn ref_func_at<'a>(alloc: Global, index: Index<'a>) -> Result<Expression<'a>>
 struct RefFunc;
 
 impl<'a> Spanned<'a, Expression<'a>> for RefFunc {
-    ghost View = { Expr };
+    ghost View = { ExpressionModel };
 
-    ghost view = { owning expression_view bare_expression };
+    ghost view = { owning expression_view heapless_expression };
 
     ghost cost = { tokens_alone };
 
@@ -133,7 +124,7 @@ impl<'a> Spanned<'a, Expression<'a>> for RefFunc {
 /// type.
 #[tactic(auto, using(crate::proofs::Lists::consumes), unfolding(crate::specs::RefFuncs::ref_funcs_of, crate::specs::RefFuncs::ref_funcs))]
 fn read_ref_funcs<'a>(parser: &mut Parser<'a>, ty: RefType<'a>) -> Result<ElemPayload<'a>>
-    ensures reads { Reads (owning payload_view bare_payload) (ref_funcs_of (ref_view ty.entry))
+    ensures reads { Reads (owning payload_view heapless_payload) (ref_funcs_of (ref_view ty.entry))
         result parser.old parser.new }
     ensures spans { IfOk result (λ p. PayloadSpansAre false p) }
 {
@@ -144,7 +135,7 @@ fn read_ref_funcs<'a>(parser: &mut Parser<'a>, ty: RefType<'a>) -> Result<ElemPa
 /// Parses indices up to the end of the group, as a payload of indices.
 #[tactic(auto, unfolding(crate::specs::RefFuncs::plain_indices))]
 fn read_plain_indices<'a>(parser: &mut Parser<'a>) -> Result<ElemPayload<'a>>
-    ensures reads { Reads (owning payload_view bare_payload) plain_indices result parser.old
+    ensures reads { Reads (owning payload_view heapless_payload) plain_indices result parser.old
         parser.new }
     ensures spans { IfOk result (λ p. PayloadSpansAre false p) }
 {
@@ -168,7 +159,8 @@ pub fn is_funcref(ty: RefType<'_>) -> bool
 /// `funcref`, otherwise of expressions `ref.func`.
 #[tactic(auto, using(crate::proofs::RefFuncs::indices_are, crate::proofs::RefFuncs::ref_funcs_are))]
 fn read_indices_of<'a>(parser: &mut Parser<'a>, ty: RefType<'a>) -> Result<ElemPayload<'a>>
-    ensures reads { Reads (owning payload_view bare_payload) (indices_of (ref_view ty.entry)) result
+    ensures reads { Reads (owning payload_view heapless_payload) (indices_of (ref_view ty.entry))
+        result
         parser.old parser.new }
     ensures spans { IfOk result (λ p. PayloadSpansAre false p) }
 {
@@ -181,10 +173,10 @@ fn read_indices_of<'a>(parser: &mut Parser<'a>, ty: RefType<'a>) -> Result<ElemP
 /// Parses items if `(` is next, otherwise indices, as a payload of the type. An index stays an
 /// index if the type is `funcref`. Otherwise it becomes an expression of the single instruction
 /// `ref.func`.
-#[tactic(auto, unfolding(crate::specs::Payload::listed, crate::specs::RefFuncs::indices_of))]
+#[tactic(auto, unfolding(crate::specs::Payload::elem_list, crate::specs::RefFuncs::indices_of))]
 pub(crate) fn read_listed<'a>(parser: &mut Parser<'a>, ty: RefType<'a>) -> Result<ElemPayload<'a>>
-    ensures reads { ReadsAt turns_too (owning payload_view bare_payload)
-        (made (of_type (ref_view ty.entry)) listed) result parser.old parser.new }
+    ensures reads { ReadsAt turns_too (owning payload_view heapless_payload)
+        (made (of_type (ref_view ty.entry)) elem_list) result parser.old parser.new }
     ensures spans { IfOk result (λ p. PayloadSpansAre (begins_lparen parser.old.left
         && parser.old.tracks) p) }
 {
@@ -198,7 +190,7 @@ pub(crate) fn read_listed<'a>(parser: &mut Parser<'a>, ty: RefType<'a>) -> Resul
 /// Parses a reference type, and items up to the end of the group.
 #[tactic(auto, unfolding(crate::specs::Payload::typed_elems))]
 fn read_typed_items<'a>(parser: &mut Parser<'a>) -> Result<ElemPayload<'a>>
-    ensures reads { ReadsAt turns_too (owning payload_view bare_payload) typed_elems result
+    ensures reads { ReadsAt turns_too (owning payload_view heapless_payload) typed_elems result
         parser.old parser.new }
     ensures spans { IfOk result (λ p. PayloadSpansAre parser.old.tracks p) }
 {
@@ -210,7 +202,8 @@ fn read_typed_items<'a>(parser: &mut Parser<'a>) -> Result<ElemPayload<'a>>
 /// Parses `func` and indices, or a reference type and items.
 #[tactic(auto, unfolding(crate::specs::Payload::payload))]
 pub(crate) fn read_payload<'a>(parser: &mut Parser<'a>) -> Result<ElemPayload<'a>>
-    ensures reads { ReadsAt turns_too (owning payload_view bare_payload) payload result parser.old
+    ensures reads { ReadsAt turns_too (owning payload_view heapless_payload) payload result
+        parser.old
         parser.new }
     ensures spans { IfOk result (λ p. PayloadSpansAre parser.old.tracks p) }
 {
@@ -223,7 +216,8 @@ pub(crate) fn read_payload<'a>(parser: &mut Parser<'a>) -> Result<ElemPayload<'a
 /// Parses `func` and indices, a reference type and items, or indices alone.
 #[tactic(auto, unfolding(crate::specs::Payload::payload_or_indices))]
 pub(crate) fn read_payload_or_indices<'a>(parser: &mut Parser<'a>) -> Result<ElemPayload<'a>>
-    ensures reads { ReadsAt turns_too (owning payload_view bare_payload) payload_or_indices result
+    ensures reads { ReadsAt turns_too (owning payload_view heapless_payload) payload_or_indices
+        result
         parser.old parser.new }
     ensures spans { IfOk result (λ p. PayloadSpansAre parser.old.tracks p) }
 {

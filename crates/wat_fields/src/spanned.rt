@@ -4,12 +4,7 @@
 //! a value keeps its spans.
 
 ghost use Rattle.std.specs.Prelude.{◌≤◌, map, Bool, All, IfOk};
-ghost use Rattle.wat_tokens.specs.Cost.{Cost};
-ghost use Rattle.wat_tokens.specs.ManySpells.{many_reads};
-ghost use Rattle.wat_tokens.specs.Production.{Production};
-ghost use Rattle.wat_tokens.specs.Reads.{Call, ReadsAt};
-ghost use Rattle.wat_tokens.specs.Tests.{more};
-ghost use Rattle.wat_tokens.specs.Views.{ViewOf, owning, no_items};
+ghost use Rattle.wat_links.specs.Prelude.{Cost, many_reads, Production, Call, ReadsAt, more, ViewOf, owning, no_items};
 
 use wat_tokens::{Parser, Result};
 

@@ -1,13 +1,8 @@
 //! Tables.
 
 ghost use Rattle.std.specs.Prelude.{◌≡◌, IfOk};
-ghost use Rattle.wat_tokens.specs.Cost.{turns_too};
-ghost use Rattle.wat_tokens.specs.Reads.{Reads, ReadsAt};
-ghost use Rattle.wat_tokens.specs.Views.{plain, owning};
-ghost use Rattle.wat_fields.specs.Table.{table_kind_view, bare_table_kind, begins_prefix};
-ghost use Rattle.wat_fields.specs.Table.{begins_inline_elems, begins_normal, inline_table};
-ghost use Rattle.wat_fields.specs.Table.{normal_table, imported_table, table_kind, TableFieldTy};
-ghost use Rattle.wat_fields.specs.Table.{table_view, bare_table, table};
+ghost use Rattle.wat_links.specs.Prelude.{turns_too, Reads, ReadsAt, plain, owning};
+ghost use Rattle.wat_fields.specs.Table.{table_kind_view, heapless_table_kind, begins_prefix, begins_inline_elems, begins_normal, inline_table, normal_table, imported_table, table_kind, TableModel, table_view, heapless_table, table};
 ghost use Rattle.wat_fields.specs.Spans.{TableSpansAre, items_behind, inline_front, has_items};
 
 use crate::payload::{ElemPayload, read_listed};
@@ -67,7 +62,8 @@ pub enum TableKind<'a> {
 /// indices `)`.
 #[tactic(auto, unfolding(crate::specs::Table::inline_table))]
 fn read_inline<'a>(parser: &mut Parser<'a>) -> Result<TableKind<'a>>
-    ensures reads { ReadsAt turns_too (owning table_kind_view bare_table_kind) inline_table result
+    ensures reads { ReadsAt turns_too (owning table_kind_view heapless_table_kind) inline_table
+        result
         parser.old parser.new }
     ensures spans { IfOk result (λ k. TableSpansAre (items_behind
         (inline_front.reads parser.old.left)) parser.old.tracks k) }
@@ -90,7 +86,8 @@ fn read_inline<'a>(parser: &mut Parser<'a>) -> Result<TableKind<'a>>
 /// Parses a table type, and an expression if the group goes on.
 #[tactic(auto, unfolding(crate::specs::Table::normal_table))]
 fn read_normal<'a>(parser: &mut Parser<'a>) -> Result<TableKind<'a>>
-    ensures reads { ReadsAt turns_too (owning table_kind_view bare_table_kind) normal_table result
+    ensures reads { ReadsAt turns_too (owning table_kind_view heapless_table_kind) normal_table
+        result
         parser.old parser.new }
     ensures spans { IfOk result (λ k. TableSpansAre (items_behind
         (inline_front.reads parser.old.left)) parser.old.tracks k) }
@@ -146,7 +143,7 @@ fn normal_next(parser: &Parser<'_>) -> bool
 /// Parses the definition of a table, after its head.
 #[tactic(auto, unfolding(crate::specs::Table::table_kind))]
 fn read_table_kind<'a>(parser: &mut Parser<'a>) -> Result<TableKind<'a>>
-    ensures reads { ReadsAt turns_too (owning table_kind_view bare_table_kind) table_kind result
+    ensures reads { ReadsAt turns_too (owning table_kind_view heapless_table_kind) table_kind result
         parser.old parser.new }
     ensures spans { IfOk result (λ k. TableSpansAre (items_behind
         (inline_front.reads parser.old.left)) parser.old.tracks k) }
@@ -173,9 +170,9 @@ fn read_table_kind<'a>(parser: &mut Parser<'a>) -> Result<TableKind<'a>>
 /// Memory; and Unexpected for anything else, also at the `(` of a group that isn't an import of two
 /// strings.
 impl<'a> Parse<'a> for Table<'a> {
-    ghost View = { TableFieldTy };
+    ghost View = { TableModel };
 
-    ghost view = { owning table_view bare_table };
+    ghost view = { owning table_view heapless_table };
 
     ghost cost = { turns_too };
 
@@ -183,7 +180,7 @@ impl<'a> Parse<'a> for Table<'a> {
 
     #[tactic(auto, unfolding(crate::specs::Table::table))]
     fn parse(parser: &mut Parser<'a>) -> Result<Self>
-        ensures reads { ReadsAt turns_too (owning table_view bare_table) table result parser.old
+        ensures reads { ReadsAt turns_too (owning table_view heapless_table) table result parser.old
             parser.new }
         ensures spans { IfOk result (λ t. TableSpansAre (has_items parser.old.left)
             parser.old.tracks t.kind) }

@@ -1,9 +1,8 @@
 //! Tags.
 
 ghost use Rattle.std.specs.Prelude.{◌≡◌};
-ghost use Rattle.wat_tokens.specs.Views.{owning, option_view};
-ghost use Rattle.wat_links.specs.Import.{inline_import_view};
-ghost use Rattle.wat_fields.specs.Tag.{TagTy, tag_kind_view, tag_view, bare_tag, tag};
+ghost use Rattle.wat_links.specs.Prelude.{owning, option_view, inline_import_view};
+ghost use Rattle.wat_fields.specs.Tag.{TagModel, tag_kind_view, tag_view, heapless_tag, tag};
 
 use wat_links::{FieldHead, InlineExport, InlineImport};
 use wat_tokens::{Fault, Id, NameAnnotation, Parse, Parser, Result, Span};
@@ -50,9 +49,9 @@ fn kind_of(import: Option<InlineImport<'_>>) -> TagKind<'_>
 ///
 /// The errors: Unexpected if the next token isn't `tag`; the errors of the parts.
 impl<'a> Parse<'a> for Tag<'a> {
-    ghost View = { TagTy };
+    ghost View = { TagModel };
 
-    ghost view = { owning tag_view bare_tag };
+    ghost view = { owning tag_view heapless_tag };
 
     ghost grammar = { tag };
 

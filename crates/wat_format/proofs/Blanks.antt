@@ -1,15 +1,10 @@
 -- Spaces before an offset of a text.
-use Rattle.std.proofs.Common.{◌≡◌, ℕ, ◌+◌, ◌<◌, ◌≤◌, List, [], ◌∷◌, ◌++◌, length, drop, get_or, refl, ap, sym, ◌∙◌, subst, arith, length-append, length-drop}
-use Rattle.std.specs.Prelude.{Bool, true, false, not, slice_range}
-use Rattle.std.specs.Str.{IsUtf8, IsCharBoundary}
-use Rattle.wat_lexer.specs.Bytes.{is_space}
-use Rattle.wat_lexer.specs.Cut.{Begins}
-use Rattle.wat_lexer.specs.Scan.{behind_spaces}
-use Rattle.wat_lexer.specs.Laws.Strings.{if_either}
-use Rattle.wat_format.specs.Shapes.{AllSpaces, Follows, Separates}
+use Rattle.std.proofs.Common.{◌≡◌, ℕ, ◌+◌, ◌<◌, ◌≤◌, List, [], ◌∷◌, ◌++◌, length, drop, get_or, refl, ap, sym, ◌∙◌, subst, arith, length-append, length-drop, false, not, slice_range}
+use Rattle.wat_lexer.specs.Laws.Prelude.{behind_spaces, if_either}
+use Rattle.wat_format.specs.Prelude.{IsUtf8, IsCharBoundary, is_space, Begins, AllSpaces, Follows, Separates, at_front, not-true}
 use Rattle.wat_format.specs.declared.piece.Shape.{Shape}
 use Rattle.wat_format.proofs.Gaps.{follows_less}
-use Rattle.wat_format.proofs.Found.{at_front, cut_out, slice_rest, space_boundary}
+use Rattle.wat_format.proofs.Found.{cut_out, slice_rest, space_boundary}
 
 abbrev NoSpace : List ℕ → Type 0
 NoSpace s = Begins (λ b. not (is_space b)) s
@@ -29,14 +24,10 @@ blanks_found s end at order within e =
     let whole : drop end s ≡ x ++ drop at s = is ∙ ap (λ l. x ++ l) (sym e) in
     (rw (cut_out s x end at order within whole) all, rw e none_there)
 
-not_false : (b : Bool) → not b ≡ true → b ≡ false
-not_false false h = refl
-not_false true h = cc
-
 pub no_space_at : (s : List ℕ) (at : ℕ) → at < length s → NoSpace (drop at s) → is_space (get_or s at 0) ≡ false
 no_space_at s at lt h =
     let here : NoSpace (get_or s at 0 ∷ drop (at + 1) s) = subst NoSpace (at_front at s lt) h in
-    not_false (is_space (get_or s at 0)) here
+    not-true (is_space (get_or s at 0)) here
 
 -- the blanks of a text can be before the piece that follows them
 pub own_blanks : (s : List ℕ) (end at : ℕ) (last : Shape) → end ≤ at → at < length s → AllSpaces (slice_range s end at) → Follows last (drop end s) → Separates last (slice_range s end at) (get_or s at 0) (slice_range s end at)

@@ -1,9 +1,6 @@
 -- Texts with the same parts have cuts with the same tokens.
 use Rattle.std.proofs.Common.{◌≡◌, ℕ, List, ap, sym, ◌∙◌, subst, length}
-use Rattle.wat_lexer.specs.Cut.{Closed, IsCut}
-use Rattle.wat_lexer.specs.Token.{Placed, tokens_of}
-use Rattle.wat_lexer.specs.Laws.Fronts.{one_cut}
-use Rattle.wat_format.specs.Parts.{SameButSpaces}
+use Rattle.wat_format.specs.Prelude.{Closed, IsCut, Placed, tokens_of, one_cut, SameButSpaces}
 use Rattle.wat_format.proofs.Reading.{reads_cuts}
 
 pub same_cut : (text answer : List ℕ) (ts : List Placed) → SameButSpaces text answer → IsCut text ts → (us : List Placed) × IsCut answer us × (tokens_of us ≡ tokens_of ts)

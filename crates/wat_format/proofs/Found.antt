@@ -1,34 +1,9 @@
 -- The results of the scans at an offset of a text.
-use Rattle.std.specs.Str.{IsUtf8, IsCharBoundary}
-use Rattle.std.proofs.lemmas.Str.{IsCharBoundary-after_ascii}
-use Rattle.std.proofs.lemmas.List.{take-append-drop}
-use Rattle.std.proofs.Math.ListN.{drop_of_length-le}
-use Rattle.std.proofs.Common.{add-one, drop-cons, suc, inl, inr, drop-drop, ◌≡◌, ℕ, ◌+◌, ◌-◌, ◌<◌, ◌≤◌, List, [], ◌∷◌, ◌++◌, length, drop, get_or, refl, ap, sym, ◌∙◌, subst, arith, length-append, length-drop, get_or-drop, get_or-take}
-use Rattle.std.specs.Prelude.{Some, None, ◌==◌, ◌&&◌, true, false, slice_range, nat_lt}
-use Rattle.std.specs.List.{AllByRecursion}
-use Rattle.std.proofs.Math.Seq.{take-append_seam, get_or-append_seam}
-use Rattle.std.proofs.lemmas.Bool.Decides.{nat_tests}
-use Rattle.wat_lexer.specs.Bytes.{is_space, is_line_end}
-use Rattle.wat_lexer.specs.Cut.{Inside, last, closed, opened, other, Begins, begins, in_no_run, Broken, wrong_char, open_comment, wrong_string}
-use Rattle.wat_lexer.specs.Scan.{behind_comment, behind_line, behind_run, string_at, Raw, Between, Ends, Stuck}
+use Rattle.std.proofs.Common.{suc, inl, inr, drop-drop, ◌≡◌, ℕ, ◌+◌, ◌-◌, ◌<◌, ◌≤◌, List, [], ◌∷◌, ◌++◌, length, drop, get_or, refl, ap, sym, ◌∙◌, subst, arith, length-append, length-drop, get_or-drop, get_or-take, Some, None, ◌==◌, ◌&&◌, true, false, slice_range, nat_lt}
+use Rattle.wat_lexer.specs.Laws.Prelude.{IsUtf8, IsCharBoundary, IsCharBoundary-after_ascii, take-append-drop, AllByRecursion, take-append_seam, get_or-append_seam, nat_tests, is_space, is_line_end, Inside, last, closed, opened, other, Begins, begins, in_no_run, Broken, wrong_char, open_comment, wrong_string, behind_comment, behind_line, behind_run, string_at, Raw, Between, Ends, Stuck, comment_sound, comment_complete, line_sound, RunUpTo, run_sound, string_complete, at_front, at_front_two, begins_at}
 use Rattle.wat_lexer.specs.declared.fault.Fault.TheVariants.{LexChar, LexString, LexComment}
-use Rattle.wat_lexer.specs.Laws.Pieces.{comment_sound, comment_complete, line_sound, RunUpTo, run_sound}
-use Rattle.wat_lexer.specs.Laws.Strings.{string_complete}
 use Rattle.wat_format.specs.Shapes.{IsOfShape, Follows, IsEdge}
 use Rattle.wat_format.specs.declared.piece.Shape.TheVariants as of
-
--- the byte at i, and the bytes after it
-pub at_front : (i : ℕ) (s : List ℕ) → i < length s → drop i s ≡ get_or s i 0 ∷ drop (i + 1) s
-at_front i s h = rw (add-one, drop-cons s i 0)
-
-at_front_two : (i : ℕ) (s : List ℕ) → i + 1 < length s → drop i s ≡ get_or s i 0 ∷ (get_or s (i + 1) 0 ∷ drop (i + 2) s)
-at_front_two i s h =
-    let a = at_front i s (omega arith) in
-    let b = at_front (i + 1) s h in
-    let e : i + 1 + 1 ≡ i + 2 = omega arith in cc
-
-begins_at : (b i : ℕ) (s : List ℕ) → begins b (drop i s) ≡ (nat_lt i (length s) && (get_or s i 0 == b))
-begins_at b i s = grind (arith, nat_tests, at_front, drop_of_length-le)
 
 pub cut_out : (s x : List ℕ) (at end : ℕ) → at ≤ end → end ≤ length s → drop at s ≡ x ++ drop end s → slice_range s at end ≡ x
 cut_out s x at end order within e =

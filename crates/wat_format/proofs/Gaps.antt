@@ -1,9 +1,7 @@
 -- The bytes of gaps.
-use Rattle.std.proofs.Common.{◌≡◌, ℕ, zero, suc, List, [], ◌∷◌, ◌++◌, length, refl, ap, sym, ◌∙◌, arith}
-use Rattle.std.specs.Prelude.{Bool, true, false, nat_lt, replicate, ◌==◌, ◌&&◌}
-use Rattle.std.proofs.lemmas.Bool.Decides.{nat_tests}
-use Rattle.wat_lexer.specs.Bytes.{is_space}
-use Rattle.wat_format.specs.Shapes.{gap_bytes, no_gap, gap_first, no_bytes, follows, Follows, is_opening, AllSpaces, Separates}
+use Rattle.std.proofs.Common.{◌≡◌, ℕ, zero, suc, List, [], ◌∷◌, ◌++◌, length, refl, ap, sym, ◌∙◌, arith, Bool, true, false, nat_lt, replicate, ◌==◌, ◌&&◌}
+use Rattle.wat_format.specs.Prelude.{nat_tests, is_space}
+use Rattle.wat_format.specs.Shapes.{gap_bytes, no_bytes, Follows, is_opening, AllSpaces, Separates, no_gap, gap_first, follows}
 use Rattle.wat_format.specs.declared.piece.Shape.{Shape}
 use Rattle.wat_format.specs.declared.piece.Shape.TheVariants as of
 

@@ -1,28 +1,21 @@
 -- Groups that are open after tokens.
-use Rattle.std.proofs.Common.{◌≡◌, ℕ, zero, suc, ◌+◌, ◌-◌, ◌<◌, List, [], ◌∷◌, ◌++◌, take, refl, ap, sym, ◌∙◌, subst, arith}
-use Rattle.std.specs.Prelude.{Bool, None}
-use Rattle.std.proofs.lemmas.List.{take-append-drop}
-use Rattle.wat_lexer.specs.Cut.{Closed}
-use Rattle.wat_lexer.specs.Scan.{class}
+use Rattle.std.proofs.Common.{◌≡◌, ℕ, zero, suc, ◌+◌, ◌-◌, ◌<◌, List, [], ◌∷◌, ◌++◌, take, refl, ap, sym, ◌∙◌, subst, arith, Bool, None}
+use Rattle.wat_format.specs.Prelude.{take-append-drop, Closed, class, Token, LParen, RParen, Keyword, Id, Annotation, Integer, String, Reserved, class_right, KnownRight, Part, a_token, a_comment, toks_in, part_of, groups_behind}
 use Rattle.wat_lexer.specs.Sight.{behind_group, deeper}
-use Rattle.wat_lexer.specs.Token.{Tok, LParen, RParen, Keyword, Id, Annotation, Integer, String, Reserved}
-use Rattle.wat_lexer.specs.Laws.Classes.{class_right, KnownRight}
-use Rattle.wat_format.specs.Parts.{Part, a_token, a_comment, toks_in}
-use Rattle.wat_format.specs.Shapes.{part_of, groups_behind}
 use Rattle.wat_format.specs.declared.piece.Shape.{Shape}
 use Rattle.wat_format.specs.declared.piece.Shape.TheVariants as of
 
 -- the number of open groups after tokens, if `depth` groups are open before the tokens
-abbrev pub open_behind : ℕ → List Tok → ℕ
+abbrev pub open_behind : ℕ → List Token → ℕ
 open_behind depth [] = depth
 open_behind depth (t ∷ ts) = open_behind (deeper t depth) ts
 
-open_append : (depth : ℕ) (ts us : List Tok) → open_behind depth (ts ++ us) ≡ open_behind (open_behind depth ts) us
+open_append : (depth : ℕ) (ts us : List Token) → open_behind depth (ts ++ us) ≡ open_behind (open_behind depth ts) us
 open_append depth [] us = refl
 open_append depth (t ∷ ts) us = open_append (deeper t depth) ts us
 
 -- each group around an unclosed group is still open
-still_open : (ts : List Tok) (depth around : ℕ) → behind_group depth ts ≡ None → around < open_behind (depth + 1 + around) ts
+still_open : (ts : List Token) (depth around : ℕ) → behind_group depth ts ≡ None → around < open_behind (depth + 1 + around) ts
 unfolding behind_group
 still_open [] depth around h = omega arith
 still_open (LParen ∷ ts) depth around h =
@@ -41,7 +34,7 @@ still_open (String n ∷ ts) depth around h = still_open ts depth around h
 still_open (Reserved n ∷ ts) depth around h = still_open ts depth around h
 
 -- if no group is open at the end, each group that begins with an annotation is closed
-pub all_closed : (ts : List Tok) → open_behind 0 ts ≡ 0 → Closed ts
+pub all_closed : (ts : List Token) → open_behind 0 ts ≡ 0 → Closed ts
 all_closed ts e i (n, rest, front, none_there) =
     let before = open_behind 0 (take i ts) in
     let parts : ts ≡ take i ts ++ (LParen ∷ Annotation n ∷ rest) = sym (take-append-drop i ts) ∙ ap (λ l. take i ts ++ l) front in
@@ -52,7 +45,7 @@ all_closed ts e i (n, rest, front, none_there) =
 
 -- PIECES
 
-no_group : (behind : Bool) (x : List ℕ) (t : Tok) (depth : ℕ) → KnownRight behind x t → deeper t depth ≡ depth
+no_group : (behind : Bool) (x : List ℕ) (t : Token) (depth : ℕ) → KnownRight behind x t → deeper t depth ≡ depth
 no_group behind x LParen depth h = absurd h
 no_group behind x RParen depth h = absurd h
 no_group behind x (Keyword n) depth h = refl

@@ -1,17 +1,9 @@
 -- A text has at most one reading.
-use Rattle.std.proofs.Common.{◌≡◌, ℕ, ◌-◌, List, [], ◌∷◌, ◌++◌, length, take, refl, ap, sym, ◌∙◌, arith, length-append}
-use Rattle.std.specs.Prelude.{Bool, true, false, not}
-use Rattle.std.proofs.Math.Seq.{take-append_seam}
-use Rattle.wat_lexer.specs.Bytes.{is_space}
-use Rattle.wat_lexer.specs.Cut.{Blank, Begins, Cuts}
-use Rattle.wat_lexer.specs.Cut as cut
-use Rattle.wat_lexer.specs.Scan.{Beginning, Nothing, BlankTo, TokenTo, Wrong, front}
-use Rattle.wat_lexer.specs.Token.{Placed, is_open}
+use Rattle.std.proofs.Common.{◌≡◌, ℕ, ◌-◌, List, [], ◌∷◌, ◌++◌, refl, sym, ◌∙◌, Bool, true, false, not}
+use Rattle.wat_lexer.specs.Laws.Prelude.{Beginning, Nothing, BlankTo, TokenTo, Wrong, front, front_of, Blank}
+use Rattle.wat_format.specs.Prelude.{is_space, Cuts, Placed, is_open, Part, a_token, a_comment, Comment, HasParts, done, space, comment, token, not-true}
 use Rattle.wat_lexer.specs.Laws.Fronts.{blank_front, token_front, front_nothing}
-use Rattle.wat_format.specs.Parts.{Part, a_token, a_comment, Comment, HasParts, done, space, comment, token}
-
-front_of : (s x rest : List ℕ) → s ≡ x ++ rest → take (length s - length rest) s ≡ x
-front_of s x rest e = let n : length s - length rest ≡ length x = omega (arith, ap length e, length-append x rest) in rw (n, e) (take-append_seam x rest)
+use Rattle.wat_lexer.specs.Cut as cut
 
 same_front : (s x y rest : List ℕ) → s ≡ x ++ rest → s ≡ y ++ rest → x ≡ y
 same_front s x y rest e f = sym (front_of s x rest e) ∙ front_of s y rest f
@@ -32,12 +24,8 @@ ReadBy s (BlankTo rest) ps = ReadBlank (space_first s) s rest ps
 ReadBy s (TokenTo t rest) ps = (x : List ℕ) × (us : List Part) × (s ≡ x ++ rest) × (ps ≡ a_token x t ∷ us) × HasParts (is_open t) rest us
 ReadBy s (Wrong f at) ps = ⊥
 
-not_false : (b : Bool) → not b ≡ true → b ≡ false
-not_false false h = refl
-not_false true h = cc
-
 comment_first : (x rest : List ℕ) → Comment x rest → space_first (x ++ rest) ≡ false
-comment_first x rest (cut.space b r h, m) = not_false (is_space b) m
+comment_first x rest (cut.space b r h, m) = not-true (is_space b) m
 comment_first x rest (cut.line y r all ends, m) = refl
 comment_first x rest (cut.block y r h, m) = refl
 

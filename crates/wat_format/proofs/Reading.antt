@@ -1,19 +1,12 @@
 -- Pieces and gaps before a text that is read.
-use Rattle.std.proofs.Common.{◌≡◌, ℕ, ◌-◌, ◌<◌, List, [], ◌∷◌, ◌++◌, length, refl, ap, sym, subst, inl, inr}
-use Rattle.std.specs.Prelude.{Bool, true, false, ◌==◌, ◌&&◌, ◌⊎◌}
-use Rattle.std.proofs.lemmas.Bool.{eqb-true}
-use Rattle.wat_lexer.specs.Cut.{Blank, Token, Run, Begins, in_no_run, Cuts, Fails}
-use Rattle.wat_lexer.specs.Cut as cut
-use Rattle.wat_lexer.specs.Scan.{class}
-use Rattle.wat_lexer.specs.Token.{Tok, LParen, RParen, Keyword, Id, Annotation, Integer, String, Reserved, Placed, tokens_of, is_open}
-use Rattle.wat_lexer.specs.declared.fault.Fault.{Fault}
-use Rattle.wat_lexer.specs.Laws.Classes.{class_right, class_reserved, KnownRight}
-use Rattle.wat_format.specs.Parts.{Part, a_token, a_comment, Comment, HasParts, done, space, comment, token, toks_in}
-use Rattle.wat_format.specs.Shapes.{is_opening, IsOfShape, part_of, Follows, no_bytes, AllSpaces}
+use Rattle.std.proofs.Common.{◌≡◌, ℕ, ◌-◌, ◌<◌, List, [], ◌∷◌, ◌++◌, length, refl, ap, sym, subst, inl, inr, Bool, true, false, ◌==◌, ◌&&◌, ◌⊎◌}
+use Rattle.wat_lexer.specs.Laws.Prelude.{eqb-true, IsToken, Run, class_reserved, by_test}
+use Rattle.wat_format.specs.Prelude.{Begins, in_no_run, Cuts, Fails, class, Token, LParen, RParen, Keyword, Id, Annotation, Integer, String, Reserved, Placed, tokens_of, is_open, Fault, class_right, KnownRight, Part, a_token, a_comment, Comment, HasParts, done, space, comment, token, toks_in, is_opening, IsOfShape, part_of, Follows, no_bytes, AllSpaces}
 use Rattle.wat_format.specs.declared.piece.Shape.{Shape}
+use Rattle.wat_lexer.specs.Cut as cut
 use Rattle.wat_format.specs.declared.piece.Shape.TheVariants as of
 
-token_of : (behind : Bool) (x rest : List ℕ) (t : Tok) → class behind x ≡ t → 0 < length x → Run x → Begins in_no_run rest → KnownRight behind x t → Token behind x rest t × (is_open t ≡ false)
+token_of : (behind : Bool) (x rest : List ℕ) (t : Token) → class behind x ≡ t → 0 < length x → Run x → Begins in_no_run rest → KnownRight behind x t → IsToken behind x rest t × (is_open t ≡ false)
 token_of behind x rest LParen c l r k h = absurd h
 token_of behind x rest RParen c l r k h = absurd h
 token_of behind x rest (Reserved n) c l r k h = ((h, l, r, k, class_reserved behind x n c), refl)
@@ -27,7 +20,7 @@ token_of behind x rest (String n) c l r k h = ((r, k, h), refl)
 abbrev pub IsPiece : Bool → Shape → List ℕ → List ℕ → Type 0
 IsPiece behind s x rest =
     (Comment x rest × (is_opening s ≡ false) × (part_of behind s x ≡ a_comment x))
-    ⊎ ((t : Tok) × Token behind x rest t × (is_open t ≡ is_opening s) × (part_of behind s x ≡ a_token x t))
+    ⊎ ((t : Token) × IsToken behind x rest t × (is_open t ≡ is_opening s) × (part_of behind s x ≡ a_token x t))
 
 pub piece_is : (behind : Bool) (s : Shape) (x rest : List ℕ) → IsOfShape s x → Follows s rest → IsPiece behind s x rest
 piece_is behind of.Line x rest (y, e, all) f = inl (subst (λ z. Comment z rest) (sym e) (cut.line y rest all f, refl), refl, refl)
@@ -61,10 +54,6 @@ class_flag c t false false h = refl
 class_flag c t true false h = rw h refl
 class_flag c t false true h = rw h refl
 
-bool_cases : (A : Type 0) (b : Bool) → (b ≡ true → A) → (b ≡ false → A) → A
-bool_cases A true p q = p refl
-bool_cases A false p q = q refl
-
 -- a `(` directly before a piece changes nothing, unless the piece begins with `@`
 pub part_flag : (s : Shape) (b : ℕ) (y : List ℕ) (f g : Bool) → (b ≡ 64 → f ≡ g) → part_of f s (b ∷ y) ≡ part_of g s (b ∷ y)
 part_flag of.Line b y f g h = refl
@@ -72,7 +61,7 @@ part_flag of.Block b y f g h = refl
 part_flag of.Open b y f g h = refl
 part_flag of.Close b y f g h = refl
 part_flag of.Word b y f g h =
-    bool_cases (a_token (b ∷ y) (class f (b ∷ y)) ≡ a_token (b ∷ y) (class g (b ∷ y))) (b == 64)
+    by_test {P = a_token (b ∷ y) (class f (b ∷ y)) ≡ a_token (b ∷ y) (class g (b ∷ y))} (b == 64)
     (λ e. ap (λ w. a_token (b ∷ y) (class w (b ∷ y))) (h (eqb-true b 64 e)))
     (λ e. ap (λ t. a_token (b ∷ y) t) (class_flag b y f g e))
 

@@ -1,23 +1,15 @@
 -- Facts about a text and the result while the result is written.
-use Rattle.std.proofs.Common.{◌≡◌, ℕ, ◌+◌, ◌<◌, ◌≤◌, List, [], ◌∷◌, ◌++◌, length, drop, refl, ap, sym, ◌∙◌, subst, arith, append_assoc, append-nil, length-drop}
-use Rattle.std.proofs.Common.{get_or}
-use Rattle.std.specs.Prelude.{Bool, true, false, ◌&&◌, slice_range}
+use Rattle.std.proofs.Common.{◌≡◌, ℕ, ◌+◌, ◌<◌, ◌≤◌, List, [], ◌∷◌, ◌++◌, length, drop, refl, ap, sym, ◌∙◌, subst, arith, append_assoc, append-nil, length-drop, get_or, Bool, true, false, ◌&&◌, slice_range}
+use Rattle.wat_format.specs.Prelude.{is_space, Closed, Fails, IsCut, offset_of, Error, Fault, Placed, Part, HasParts, done, space, SameButSpaces, toks_in, is_opening, IsOfShape, part_of, Follows, no_bytes, AllSpaces, Separates, groups_behind}
+use Rattle.wat_format.specs.Shapes.{WrongAt}
 use Rattle.wat_format.proofs.Found.{slice_front, slice_rest}
-use Rattle.wat_lexer.specs.Bytes.{is_space}
-use Rattle.wat_lexer.specs.Cut.{Closed, Fails, IsCut}
-use Rattle.wat_lexer.specs.Cut as cut
-use Rattle.wat_lexer.specs.Place.{offset_of}
 use Rattle.wat_lexer.specs.View.{FailsAt}
-use Rattle.wat_lexer.specs.declared.fault.Error.{Error}
-use Rattle.wat_lexer.specs.declared.fault.Fault.{Fault}
-use Rattle.wat_lexer.specs.Token.{Placed}
-use Rattle.wat_format.specs.Parts.{Part, HasParts, done, space, SameButSpaces, toks_in}
-use Rattle.wat_format.specs.Shapes.{is_opening, IsOfShape, part_of, Follows, no_bytes, AllSpaces, Separates, groups_behind, WrongAt}
 use Rattle.wat_format.specs.declared.piece.Shape.{Shape}
-use Rattle.wat_format.specs.declared.piece.Shape.TheVariants as of
 use Rattle.wat_format.proofs.Gaps.{follows_more, line_follows}
 use Rattle.wat_format.proofs.Groups.{open_behind, one_piece_more, all_closed}
 use Rattle.wat_format.proofs.Reading.{reads_piece, fails_piece, part_flag, reads_gap, reads_cuts, none_false}
+use Rattle.wat_lexer.specs.Cut as cut
+use Rattle.wat_format.specs.declared.piece.Shape.TheVariants as of
 
 -- The parts so far. In the text, the parts of the rest come after them; in the result, any text that can
 -- be after the last piece is read after them. `depth` groups are open after them.

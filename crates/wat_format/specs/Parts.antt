@@ -1,12 +1,10 @@
 -- The parts of a text besides spaces.
 use Rattle.std.specs.Prelude.{◌≡◌, ℕ, ◌++◌, Bool, true, false, not, List, [], ◌∷◌}
-use Rattle.wat_lexer.specs.Bytes.{is_space}
-use Rattle.wat_lexer.specs.Cut.{Blank, Token, Begins}
-use Rattle.wat_lexer.specs.Token.{Tok, is_open}
+use Rattle.wat_lexer.specs.Prelude.{is_space, Blank, IsToken, Begins, Token, is_open}
 
 -- a token, by its bytes and the token that they spell, or a comment, by its bytes
 pub data Part : Type 0 where
-  a_token : List ℕ → Tok → Part
+  a_token : List ℕ → Token → Part
   a_comment : List ℕ → Part
 
 -- a blank that isn't a space
@@ -21,8 +19,8 @@ pub data HasParts : Bool → List ℕ → List Part → Type 0 where
       → HasParts false rest ps → HasParts behind (b ∷ rest) ps
   comment : (behind : Bool) (text x rest : List ℕ) (ps : List Part) → text ≡ x ++ rest
       → Comment x rest → HasParts false rest ps → HasParts behind text (a_comment x ∷ ps)
-  token : (behind : Bool) (text x rest : List ℕ) (t : Tok) (ps : List Part) → text ≡ x ++ rest
-      → Token behind x rest t → HasParts (is_open t) rest ps
+  token : (behind : Bool) (text x rest : List ℕ) (t : Token) (ps : List Part) → text ≡ x ++ rest
+      → IsToken behind x rest t → HasParts (is_open t) rest ps
       → HasParts behind text (a_token x t ∷ ps)
 
 -- Both texts have the same tokens and comments, byte for byte and in the same order: the texts
@@ -30,7 +28,7 @@ pub data HasParts : Bool → List ℕ → List Part → Type 0 where
 abbrev pub SameButSpaces : List ℕ → List ℕ → Type 0
 SameButSpaces text answer = (ps : List Part) × HasParts false text ps × HasParts false answer ps
 
-abbrev pub toks_in : List Part → List Tok
+abbrev pub toks_in : List Part → List Token
 toks_in [] = []
 toks_in (a_token x t ∷ ps) = t ∷ toks_in ps
 toks_in (a_comment x ∷ ps) = toks_in ps

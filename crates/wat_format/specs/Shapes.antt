@@ -1,13 +1,6 @@
 -- Pieces of a text by their shapes.
-use Rattle.std.specs.Prelude.{◌≡◌, ◌≤◌, ◌<◌, ◌+◌, ◌-◌, ℕ, nat_lt, if◌then◌else◌, Bool}
-use Rattle.std.specs.Prelude.{true, false, not, ◌==◌, ◌&&◌, ◌⊎◌, List, [], ◌∷◌, ◌++◌, length}
-use Rattle.std.specs.Prelude.{drop, replicate, slice_index}
-use Rattle.std.specs.List.{AllByRecursion}
-use Rattle.wat_lexer.specs.Bytes.{is_space, is_line_end}
-use Rattle.wat_lexer.specs.Cut.{Inside, Begins, Run, in_no_run, Broken}
-use Rattle.wat_lexer.specs.Place.{offset_of}
-use Rattle.wat_lexer.specs.Scan.{class}
-use Rattle.wat_lexer.specs.Token.{LParen, RParen}
+use Rattle.std.specs.Prelude.{◌≡◌, ◌≤◌, ◌<◌, ◌+◌, ◌-◌, ℕ, nat_lt, if◌then◌else◌, Bool, true, false, not, ◌==◌, ◌&&◌, ◌⊎◌, List, [], ◌∷◌, ◌++◌, length, drop, replicate, slice_index}
+use Rattle.wat_lexer.specs.Prelude.{AllByRecursion, is_space, is_line_end, Inside, Begins, Run, in_no_run, Broken, offset_of, class, LParen, RParen}
 use Rattle.wat_lexer.specs.declared.fault.Error.{Error}
 use Rattle.wat_format.specs.Parts.{Part, a_token, a_comment}
 use Rattle.wat_format.specs.declared.piece.Shape.{Shape}

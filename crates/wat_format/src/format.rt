@@ -4,14 +4,9 @@
 //! between them. Besides the result it keeps only the open groups in memory. If a group is open at
 //! the end, the whole text is cut too.
 
-ghost use Rattle.std.specs.Prelude.{◌≡◌, ◌+◌, ◌≤◌, ◌<◌, IfOk, IfErr, ℕ, List, length, string_bytes};
-ghost use Rattle.std.specs.Prelude.{slice_range};
-ghost use Rattle.std.specs.Str.{IsCharBoundary};
-ghost use Rattle.wat_lexer.specs.Cut.{FirstFault, IsCut};
-ghost use Rattle.wat_lexer.specs.Place.{offset_of};
-ghost use Rattle.wat_lexer.specs.Token.{Placed, tokens_of};
-ghost use Rattle.wat_lexer.specs.View.{IfFault, FailsAt};
-ghost use Rattle.wat_format.specs.Parts.{SameButSpaces};
+ghost use Rattle.std.specs.Prelude.{string_bytes, ◌≡◌, ◌<◌, IfOk, IfErr, List};
+ghost use Rattle.wat_format.specs.Prelude.{FirstFault, IsCut, offset_of, Placed, tokens_of, IfFault, SameButSpaces};
+ghost use Rattle.wat_lexer.specs.View.{FailsAt};
 
 use crate::gap::put_blanks;
 use crate::layout::Layout;

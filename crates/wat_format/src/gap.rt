@@ -1,8 +1,7 @@
 //! The blanks between two pieces (Text Format, Lexical Format, "White Space").
 
-ghost use Rattle.std.specs.Prelude.{◌≡◌, ◌++◌, ◌&&◌, List, ℕ, true, OnOk, replicate, string_bytes};
-ghost use Rattle.wat_format.specs.Shapes.{follows, is_opening, gap_bytes, no_gap};
-ghost use Rattle.wat_format.specs.Shapes.{gap_first, Separates};
+ghost use Rattle.std.specs.Prelude.{string_bytes, ◌≡◌, ◌++◌, ◌&&◌, List, ℕ, true, OnOk, replicate};
+ghost use Rattle.wat_format.specs.Shapes.{is_opening, gap_bytes, Separates, follows, no_gap, gap_first};
 
 use crate::piece::Shape;
 use std::alloc::AllocError;

@@ -1,9 +1,7 @@
 //! Laws of the definitions.
 
-ghost use Rattle.std.specs.Prelude.{◌≡◌, ℕ, List, Bool, false};
-ghost use Rattle.wat_lexer.specs.Cut.{IsCut};
-ghost use Rattle.wat_lexer.specs.Token.{Placed, tokens_of};
-ghost use Rattle.wat_format.specs.Parts.{Part, HasParts, SameButSpaces, toks_in};
+ghost use Rattle.std.specs.Prelude.{◌≡◌, ℕ, List, false};
+ghost use Rattle.wat_format.specs.Prelude.{IsCut, Placed, tokens_of, Part, HasParts, SameButSpaces, toks_in};
 
 /// A text splits into tokens and comments in at most one way. A text with a cut has such a split,
 /// and its tokens are those of the cut.

@@ -1,8 +1,7 @@
 //! The piece of a text at an offset: a token or a comment (Text Format, Lexical Format, "Tokens",
 //! "Comments").
 
-ghost use Rattle.std.specs.Prelude.{◌≡◌, ◌+◌, ◌-◌, ◌≤◌, ◌<◌, ◌==◌, ◌&&◌, false, nat_lt};
-ghost use Rattle.std.specs.Prelude.{IfOk, IfErr, length, drop, slice_range, slice_index};
+ghost use Rattle.std.specs.Prelude.{◌≡◌, ◌+◌, ◌-◌, ◌≤◌, ◌<◌, ◌==◌, ◌&&◌, false, nat_lt, IfOk, IfErr, length, drop, slice_range, slice_index};
 ghost use Rattle.wat_lexer.specs.Bytes.{is_space};
 ghost use Rattle.wat_format.specs.Shapes.{IsOfShape, Follows, IsEdge, WrongAt};
 

@@ -1,90 +1,50 @@
 -- No operand begins with the keyword `type`, `param` or `result`.
-use Rattle.std.proofs.Common.{◌≡◌, ℕ, ◌⊎◌, Bool, true, false, List, [], ◌∷◌, ◌++◌, Option, Some, None, codes, bytes_eq, refl, subst, sym, ap, ◌∙◌, inl, inr}
-use Rattle.std.proofs.lemmas.List.{append-nil}
-use Rattle.std.specs.Cmp.Lexicographic.{bytes_decides}
-use Rattle.wat_tokens.specs.Token.{Tok, LParen, Keyword}
-use Rattle.wat_tokens.specs.Tests.{begins_word, begins_id, as_id, word_in, word_only}
-use Rattle.wat_tokens.specs.Production.{Production}
-use Rattle.wat_tokens.specs.Laws.Production.{by_test}
-use Rattle.wat_tokens.specs.Parts.{seq}
-use Rattle.wat_tokens.specs.PartSpells.{opt_spells}
-use Rattle.wat_tokens.specs.ManySpells.{many_spells}
-use Rattle.wat_tokens.specs.Index.{identifier, index, index_of, begins_index}
-use Rattle.wat_tokens.specs.Integers.{unsigned, unsigned_of, signed_of}
-use Rattle.wat_tokens.specs.Joined.{joined}
-use Rattle.wat_tokens.specs.NameAnnotation.{name_annotation, begins_name}
-use Rattle.wat_types.specs.Heap.{abstract_heap_type, abstract_words, heap_type}
-use Rattle.wat_types.specs.Reference.{shorthand, shorthand_words, ref_type}
-use Rattle.wat_types.specs.Label.{label}
-use Rattle.wat_types.specs.Group.{func_group, group_follows, begins_func}
-use Rattle.wat_types.specs.FunctionSpells.{func_groups}
-use Rattle.wat_types.specs.FunctionNoNames.{function_type_no_names}
-use Rattle.wat_types.specs.Use.{type_use, type_follows, type_index}
-use Rattle.wat_operands.specs.Aggregates.{array_of_length}
-use Rattle.wat_operands.specs.BranchTable.{br_table}
-use Rattle.wat_operands.specs.Lanes.{lane_in, lane_arg, lane_access}
-use Rattle.wat_operands.specs.Memory.{target, begins_with, offset_or_0, align, align_or, mem_arg, atomic_mem_arg}
-use Rattle.wat_tokens.specs.Kind.{past_front}
-use Rattle.wat_operands.specs.Align.{number_behind, field}
-use Rattle.wat_operands.specs.Ordering.{ordering, begins_ordering, ordered}
-use Rattle.wat_operands.specs.Tables.{index_or_0, index_pair, init, copy}
-use Rattle.wat_operands.specs.Vector.{two, twice, four, eight, sixteen, float_const, wide_const, v128_const, shuffle}
-use Rattle.wat_operands.specs.Block.{signature, block_type}
-use Rattle.wat_operands.specs.Call.{call_indirect}
-use Rattle.wat_operands.specs.Casts.{cast_branch}
-use Rattle.wat_operands.specs.Catches.{begins_catch, try_table}
-use Rattle.wat_operands.specs.CatchClause.{catch_clause}
-use Rattle.wat_operands.specs.Handlers.{resume_table, resume, resume_throw}
-use Rattle.wat_operands.specs.Select.{at_result, result_follows, select_types}
-use Rattle.wat_operands.specs.ResultGroup.{result_group}
-use Rattle.wat_operands.specs.Laws.Select.{result_group_consumes}
-use Rattle.wat_mnemonics.specs.Access.{access_align, atomic_access_align, rmw_access_align, lane_access_align}
-use Rattle.wat_mnemonics.specs.Ops.{op_word}
-use Rattle.wat_mnemonics.specs.declared.op.Op.{Op}
-use Rattle.wat_mnemonics.specs.declared.op.Op.TheVariants as ops
-use Rattle.wat_instr.specs.Follows.{MayFollow}
-use Rattle.wat_instr.specs.Operand.{operand}
-use Rattle.wat_instr.specs.Instruction.{Instr, instruction}
-use Rattle.wat_tokens.specs.Kind.{a_word}
-use Rattle.wat_tokens.specs.Test.{starts}
+use Rattle.std.proofs.Common.{bytes_eq, ◌≡◌, ℕ, ◌⊎◌, Bool, true, false, List, [], ◌∷◌, ◌++◌, Option, Some, None, codes, refl, subst, sym, ap, ◌∙◌, inl, inr}
+use Rattle.wat_instr.specs.Prelude.{append-nil, bytes_decides, Token, LParen, Keyword, begins_word, begins_id, word_only, Production, by_test, seq, opt_spells, many_spells, identifier, index, begins_index, unsigned, unsigned_of, signed_of, joined, name_annotation, begins_name, abstract_heap_type, heap_type, shorthand, ref_type, label, func_group, group_follows, begins_func, func_groups, function_type_no_names, type_use, type_index, array_of_length, br_table, lane_in, lane_arg, lane_access, target, begins_with, offset_or_0, align, align_or, mem_arg, atomic_mem_arg, past_front, number_behind, field, ordering, begins_ordering, ordered, index_or_0, index_pair, init, copy, two, twice, four, eight, sixteen, float_const, wide_const, v128_const, shuffle, signature, block_type, call_indirect, cast_branch, begins_catch, try_table, catch_clause, resume_table, resume, resume_throw, at_result, result_follows, select_types, result_group, result_group_consumes, access_align, atomic_access_align, rmw_access_align, lane_access_align, op_word, Op, MayFollow, operand, InstructionModel, instruction, a_word, starts}
+use Rattle.wat_tokens.specs.Tests.{as_id, word_in}
+use Rattle.wat_tokens.specs.Index.{index_of}
+use Rattle.wat_types.specs.Heap.{abstract_words}
+use Rattle.wat_types.specs.Reference.{shorthand_words}
+use Rattle.wat_types.specs.Use.{type_follows}
 use Rattle.wat_instr.proofs.Following.{is_off}
 use Rattle.wat_instr.proofs.Words.{it_may_follow}
+use Rattle.wat_mnemonics.specs.declared.op.Op.TheVariants as ops
 
 -- the first token is not one of the three keywords
-record Fresh (c : List Tok) : Type 0 where
+record Fresh (c : List Token) : Type 0 where
   pub not_type : begins_word (codes "type") c ≡ false
   pub not_param : begins_word (codes "param") c ≡ false
   pub not_result : begins_word (codes "result") c ≡ false
 
-abbrev fresh : {c : List Tok} → begins_word (codes "type") c ≡ false → begins_word (codes "param") c ≡ false → begins_word (codes "result") c ≡ false → Fresh c
+abbrev fresh : {c : List Token} → begins_word (codes "type") c ≡ false → begins_word (codes "param") c ≡ false → begins_word (codes "result") c ≡ false → Fresh c
 fresh p q r = record { not_type = p; not_param = q; not_result = r }
 
 -- no spelling of a value begins with one of the three keywords
 abbrev BeginsFresh : {A : Type 0} → Production A → Type 0
-BeginsFresh {A} g = (v : A) (c r : List Tok) → g.spells v c r → Fresh c
+BeginsFresh {A} g = (v : A) (c r : List Token) → g.spells v c r → Fresh c
 
 -- ---- parts
 
-both : (c d : List Tok) → Fresh c → Fresh d → Fresh (c ++ d)
+both : (c d : List Token) → Fresh c → Fresh d → Fresh (c ++ d)
 both [] d p q = q
 both (Keyword k ∷ c) d p q = fresh p.not_type p.not_param p.not_result
 both (_ ∷ c) d p q = fresh refl refl refl
 
 -- two parts in sequence
-in_both : {c d e : List Tok} → c ≡ d ++ e → Fresh d → Fresh e → Fresh c
+in_both : {c d e : List Token} → c ≡ d ++ e → Fresh d → Fresh e → Fresh c
 in_both {d = d} {e = e} is p q = subst Fresh (sym is) (both d e p q)
 
-empty : {c : List Tok} → c ≡ [] → Fresh c
+empty : {c : List Token} → c ≡ [] → Fresh c
 empty is = rw is (fresh refl refl refl)
 
-group : {c d : List Tok} → c ≡ LParen ∷ d → Fresh c
+group : {c d : List Token} → c ≡ LParen ∷ d → Fresh c
 group is = rw is (fresh refl refl refl)
 
 -- f accepts none of the three keywords
-abbrev NoTypeWord : {A : Type 0} → (Tok → Option A) → Type 0
+abbrev NoTypeWord : {A : Type 0} → (Token → Option A) → Type 0
 NoTypeWord f = (f (Keyword (codes "type")) ≡ None) × (f (Keyword (codes "param")) ≡ None) × (f (Keyword (codes "result")) ≡ None)
 
-other_word : {A : Type 0} (f : Tok → Option A) (w : List ℕ) (x : Tok) (v : A) (e : List Tok) → f (Keyword w) ≡ None → f x ≡ Some v → begins_word w (x ∷ e) ≡ false
+other_word : {A : Type 0} (f : Token → Option A) (w : List ℕ) (x : Token) (v : A) (e : List Token) → f (Keyword w) ≡ None → f x ≡ Some v → begins_word w (x ∷ e) ≡ false
 other_word f w (Keyword k) v e n h =
     by_test (bytes_eq k w)
     (λ t. absurd (let s : f (Keyword w) ≡ Some v = subst (λ (u : List ℕ). f (Keyword u) ≡ Some v) ((bytes_decides k w).0 t) h in cc))
@@ -92,22 +52,22 @@ other_word f w (Keyword k) v e n h =
 other_word f w _ v e n h = refl
 
 -- a token that f accepts, and any tokens after it
-in_front : {A : Type 0} {v : A} {c d : List Tok} (f : Tok → Option A) → NoTypeWord f → (e : List Tok) → c ≡ d ++ e → (x : Tok) × (d ≡ x ∷ []) × (f x ≡ Some v) → Fresh c
+in_front : {A : Type 0} {v : A} {c d : List Token} (f : Token → Option A) → NoTypeWord f → (e : List Token) → c ≡ d ++ e → (x : Token) × (d ≡ x ∷ []) × (f x ≡ Some v) → Fresh c
 in_front {v = v} f n e is s =
     rw (is, s.1) (fresh (other_word f (codes "type") s.0 v e n.0 s.2) (other_word f (codes "param") s.0 v e n.1 s.2) (other_word f (codes "result") s.0 v e n.2 s.2))
 
-one : {A : Type 0} {v : A} {c : List Tok} (f : Tok → Option A) → NoTypeWord f → (x : Tok) × (c ≡ x ∷ []) × (f x ≡ Some v) → Fresh c
+one : {A : Type 0} {v : A} {c : List Token} (f : Token → Option A) → NoTypeWord f → (x : Token) × (c ≡ x ∷ []) × (f x ≡ Some v) → Fresh c
 one {c = c} f n s = in_front f n [] (sym (append-nil c)) s
 
-either : {P Q T U : Type 0} {c : List Tok} → (T × P) ⊎ (U × Q) → (P → Fresh c) → (Q → Fresh c) → Fresh c
+either : {P Q T U : Type 0} {c : List Token} → (T × P) ⊎ (U × Q) → (P → Fresh c) → (Q → Fresh c) → Fresh c
 either (inl s) p q = p s.1
 either (inr s) p q = q s.1
 
-maybe : {A : Type 0} (begins : List Tok → Bool) (g : Production A) → BeginsFresh g → (v : Option A) (c r : List Tok) → opt_spells begins g v c r → Fresh c
+maybe : {A : Type 0} (begins : List Token → Bool) (g : Production A) → BeginsFresh g → (v : Option A) (c r : List Token) → opt_spells begins g v c r → Fresh c
 maybe begins g p (Some v) c r s = p v c r s.1
 maybe begins g p None c r s = empty s.0
 
-some : {A : Type 0} (begins : List Tok → Bool) (g : Production A) → BeginsFresh g → (vs : List A) (c r : List Tok) → many_spells begins g vs c r → Fresh c
+some : {A : Type 0} (begins : List Token → Bool) (g : Production A) → BeginsFresh g → (vs : List A) (c r : List Token) → many_spells begins g vs c r → Fresh c
 some begins g p [] c r s = empty s.0
 some begins g p (v ∷ vs) c r s = in_both s.2 (p v s.0 (s.1 ++ r) s.4) (some begins g p vs s.1 r s.5)
 
@@ -340,11 +300,11 @@ operand_fresh ops.br_on_cast_desc_eq v c r s = cast_fresh s.0 c r s.1
 operand_fresh ops.br_on_cast_desc_eq_fail v c r s = cast_fresh s.0 c r s.1
 
 -- an instruction before a rest that may follow is also a rest that may follow
-pub goes_before : (v : Instr) (c r s : List Tok) → instruction.spells v c r → MayFollow s → MayFollow (c ++ s)
+pub goes_before : (v : InstructionModel) (c r s : List Token) → instruction.spells v c r → MayFollow s → MayFollow (c ++ s)
 unfolding instruction
 goes_before v c r s h m =
     let d = h.2 in
-    let is : c ≡ Keyword (op_word h.0) ∷ d = h.3 ∙ ap (λ (u : List Tok). u ++ d) h.4 in
+    let is : c ≡ Keyword (op_word h.0) ∷ d = h.3 ∙ ap (λ (u : List Token). u ++ d) h.4 in
     let f = is_off s (it_may_follow s m) in
     let b = both d s (operand_fresh h.0 h.5.0 d r h.5.1) (fresh (f (starts (a_word (codes "type"))) refl) (f (starts (a_word (codes "param"))) refl) (f (starts (a_word (codes "result"))) refl)) in
-    subst MayFollow (sym (ap (λ (u : List Tok). u ++ s) is)) (inl (h.0, d ++ s, refl), (b.not_type, b.not_param, b.not_result))
+    subst MayFollow (sym (ap (λ (u : List Token). u ++ s) is)) (inl (h.0, d ++ s, refl), (b.not_type, b.not_param, b.not_result))

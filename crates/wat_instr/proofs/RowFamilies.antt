@@ -1,15 +1,10 @@
 -- The instructions in the rows of blocks, of `if` and of `br_if`.
-use Rattle.std.specs.Prelude.{◌≡◌, ◌==◌, Bool, true, false, refl}
-use Rattle.std.proofs.Common.{ap, sym, ◌∙◌}
-use Rattle.std.proofs.lemmas.Bool.{eqb-true}
-use Rattle.wat_tokens.specs.Laws.Production.{by_test}
-use Rattle.wat_mnemonics.specs.Ops.{op_row}
-use Rattle.wat_mnemonics.specs.declared.op.Op.{Op}
+use Rattle.std.proofs.Common.{◌≡◌, ◌==◌, Bool, true, false, refl, ap, sym, ◌∙◌}
+use Rattle.wat_instr.specs.Prelude.{eqb-true, by_test, op_row, Op, is_block, is_if, is_br_if}
+use Rattle.wat_mnemonics.specs.Laws.TableIndex.{one_row}
 use Rattle.wat_mnemonics.specs.declared.op.Op.TheVariants as ops
 use Rattle.wat_mnemonics.specs.declared.indexed.BlockOp.TheVariants as block
 use Rattle.wat_mnemonics.specs.declared.indexed.IndexedOp.TheVariants as indexed
-use Rattle.wat_mnemonics.specs.Laws.Places.{one_row}
-use Rattle.wat_instr.specs.Instruction.{is_block, is_if, is_br_if}
 
 -- ---- the patterns of the code
 

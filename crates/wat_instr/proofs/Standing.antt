@@ -1,65 +1,22 @@
 -- Tokens that spell an instruction before one rest spell it before each rest that may follow an instruction.
 use Rattle.std.proofs.Common.{◌≡◌, ℕ, ◌≤◌, Bool, true, false, List, [], ◌∷◌, ◌++◌, length, codes, Option, Some, None, refl, sym, ◌∙◌, subst, ap, arith, append_assoc, length-append, inl, inr}
-use Rattle.wat_tokens.specs.Token.{Tok, LParen, Integer, Keyword}
-use Rattle.wat_tokens.specs.Asks.{Asks, ask, behind, Alike}
-use Rattle.wat_tokens.specs.Parens.{opens, closes, AreBalanced}
-use Rattle.wat_tokens.specs.Laws.Parens.{opens-append, closes-append}
-use Rattle.wat_tokens.specs.Kind.{past_front}
-use Rattle.wat_tokens.specs.Test.{Test, run, sight, second_word}
+use Rattle.wat_instr.specs.Prelude.{Token, LParen, Integer, Keyword, Alike, opens, closes, AreBalanced, opens-append, closes-append, past_front, Test, run, second_word, settled_alike, sees, Production, seq, made, opt, opt_spells, many_spells, many, group, IndexModel, index, begins_index, name_annotation, abstract_heap_type, heap_type, shorthand, ref_type, ValTypeModel, val_type, label, FunctionTypeModel, plain_params, params, val_types, func_group, group_follows, begins_func, at_func, function_groups, func_groups, function_type_no_names, type_index, type_use, array_of_length, field, signature, block_type, br_table, call_indirect, cast_branch, catch_kind, catch_clause, try_table, at_catch, catch_clause_consumes, aim, handler, resume_table, resume, resume_throw, lane_in, lane_arg, access_of, lane_access, LaneAccessModel, MemArgTargetModel, MemArgModel, target, offset_or_0, align, align_or, mem_arg, atomic_mem_arg, ordering, result_group, result_group_consumes, select_types, at_result, index_or_0, index_pair, init, copy, two, four, eight, sixteen, float_const, wide_const, v128_const, shuffle, lane_access_align, Op, operand, InstructionModel, behind_word, instruction}
+use Rattle.wat_tokens.specs.Asks.{Asks, ask, behind}
+use Rattle.wat_tokens.specs.Test.{sight}
+use Rattle.wat_types.specs.Group.{Group}
+use Rattle.wat_operands.specs.Lanes.{lane_alone, at_alone}
 use Rattle.wat_tokens.specs.Settled.{settled}
-use Rattle.wat_tokens.specs.Laws.Settled.{settled_alike}
-use Rattle.wat_tokens.specs.Laws.Test.{sees}
-use Rattle.wat_tokens.specs.Production.{Production}
-use Rattle.wat_tokens.specs.Parts.{seq, made, opt}
-use Rattle.wat_tokens.specs.PartSpells.{opt_spells}
-use Rattle.wat_tokens.specs.ManySpells.{many_spells}
-use Rattle.wat_tokens.specs.Many.{many}
-use Rattle.wat_tokens.specs.Groups.{group}
-use Rattle.wat_tokens.specs.Index.{Idx, index, begins_index}
-use Rattle.wat_tokens.specs.NameAnnotation.{name_annotation}
-use Rattle.wat_types.specs.Heap.{abstract_heap_type, heap_type}
-use Rattle.wat_types.specs.Reference.{shorthand, ref_type}
-use Rattle.wat_types.specs.Value.{ValTy, val_type}
-use Rattle.wat_types.specs.Label.{label}
-use Rattle.wat_types.specs.Group.{Group, FuncTy, plain_params, params, val_types, func_group, group_follows, begins_func, at_func}
-use Rattle.wat_types.specs.Function.{function_groups}
-use Rattle.wat_types.specs.FunctionSpells.{func_groups}
-use Rattle.wat_types.specs.FunctionNoNames.{function_type_no_names}
-use Rattle.wat_types.specs.Use.{type_index, type_use}
-use Rattle.wat_operands.specs.Aggregates.{array_of_length}
-use Rattle.wat_operands.specs.Align.{field}
-use Rattle.wat_operands.specs.Block.{signature, block_type}
-use Rattle.wat_operands.specs.BranchTable.{br_table}
-use Rattle.wat_operands.specs.Call.{call_indirect}
-use Rattle.wat_operands.specs.Casts.{cast_branch}
-use Rattle.wat_operands.specs.CatchClause.{catch_kind, catch_clause}
-use Rattle.wat_operands.specs.Catches.{try_table, at_catch}
-use Rattle.wat_operands.specs.Laws.Catches.{catch_clause_consumes}
-use Rattle.wat_operands.specs.Handler.{aim, handler}
-use Rattle.wat_operands.specs.Handlers.{resume_table, resume, resume_throw}
-use Rattle.wat_operands.specs.Lanes.{lane_in, lane_arg, lane_alone, access_of, at_alone, lane_access, LaneAccessTy}
-use Rattle.wat_operands.specs.Memory.{TargetTy, MemArgTy, target, offset_or_0, align, align_or, mem_arg, atomic_mem_arg}
-use Rattle.wat_operands.specs.Ordering.{ordering}
-use Rattle.wat_operands.specs.ResultGroup.{result_group}
-use Rattle.wat_operands.specs.Laws.Select.{result_group_consumes}
-use Rattle.wat_operands.specs.Select.{select_types, at_result}
-use Rattle.wat_operands.specs.Tables.{index_or_0, index_pair, init, copy}
-use Rattle.wat_operands.specs.Vector.{two, four, eight, sixteen, float_const, wide_const, v128_const, shuffle}
-use Rattle.wat_mnemonics.specs.Access.{lane_access_align}
-use Rattle.wat_mnemonics.specs.declared.op.Op.{Op}
-use Rattle.wat_mnemonics.specs.declared.op.Op.TheVariants as ops
-use Rattle.wat_instr.specs.Operand.{operand}
-use Rattle.wat_instr.specs.Instruction.{Instr, behind_word, instruction}
 use Rattle.wat_instr.proofs.Following.{may_follow, off, off_second, is_off, is_off_second}
+use Rattle.wat_mnemonics.specs.declared.op.Op.TheVariants as ops
 
 -- tokens that spell a value before e and some rest spell it before e and each rest that may follow
 record Stands {A : Type 0} (g : Production A) : Type 0 where
-  moves : (v : A) (c e r s : List Tok) → opens e ≤ closes e → may_follow s ≡ true → g.spells v c (e ++ r) → g.spells v c (e ++ s)
+  moves : (v : A) (c e r s : List Token) → opens e ≤ closes e → may_follow s ≡ true → g.spells v c (e ++ r) → g.spells v c (e ++ s)
 
 abbrev is_settled : Asks → Bool
 is_settled a = settled off off_second 0 (behind 0 a)
 
-settles : (a : Asks) → is_settled a ≡ true → (e r s : List Tok) → opens e ≤ closes e → may_follow s ≡ true → Alike a (e ++ r) (e ++ s)
+settles : (a : Asks) → is_settled a ≡ true → (e r s : List Token) → opens e ≤ closes e → may_follow s ≡ true → Alike a (e ++ r) (e ++ s)
 settles a k e r s level f = settled_alike off off_second s (is_off s f) (is_off_second s f) (behind 0 a) r k e (omega arith) level
 
 stands : {A : Type 0} (g : Production A) → is_settled g.asks ≡ true → Stands g
@@ -73,25 +30,25 @@ seq_stands {g = g} {h = h} p q = record {
   moves = λ v c e r s level f w. (
       let b : AreBalanced w.1 = h.balanced v.1 w.1 (e ++ r) w.4 in
       let both : opens (w.1 ++ e) ≤ closes (w.1 ++ e) = omega (arith, opens-append w.1 e, closes-append w.1 e, b, level) in
-      let old = subst (λ (u : List Tok). g.spells v.0 w.0 u) (sym (append_assoc w.1 e r)) w.3 in
-      let new = subst (λ (u : List Tok). g.spells v.0 w.0 u) (append_assoc w.1 e s) (p.moves v.0 w.0 (w.1 ++ e) r s both f old) in
+      let old = subst (λ (u : List Token). g.spells v.0 w.0 u) (sym (append_assoc w.1 e r)) w.3 in
+      let new = subst (λ (u : List Token). g.spells v.0 w.0 u) (append_assoc w.1 e s) (p.moves v.0 w.0 (w.1 ++ e) r s both f old) in
       (w.0, w.1, w.2, new, q.moves v.1 w.1 e r s level f w.4));
 }
 
 -- a test looks at no more tokens than c has
-seen : (test : Test) (b : Bool) (c t u : List Tok) → 2 ≤ length c → sight test.asks ≤ 2 → run test (c ++ t) ≡ b → run test (c ++ u) ≡ b
+seen : (test : Test) (b : Bool) (c t u : List Token) → 2 ≤ length c → sight test.asks ≤ 2 → run test (c ++ t) ≡ b → run test (c ++ u) ≡ b
 seen test b c t u le few k = sym (sees test.asks c t u (omega (arith, le, few))) ∙ k
 
 -- ---- type uses
 
-begins_func_follows : (t : List Tok) → begins_func t ≡ true → group_follows t ≡ true
+begins_func_follows : (t : List Token) → begins_func t ≡ true → group_follows t ≡ true
 begins_func_follows (LParen ∷ (Keyword k ∷ t)) e = e
 begins_func_follows [] e = absurd cc
 begins_func_follows (LParen ∷ []) e = absurd cc
 begins_func_follows (LParen ∷ (_ ∷ t)) e = absurd cc
 begins_func_follows (_ ∷ t) e = absurd cc
 
-groups_take : (gs : List Group) (c t : List Tok) → begins_func (c ++ t) ≡ true → (func_groups true).spells gs c t → 2 ≤ length c
+groups_take : (gs : List Group) (c t : List Token) → begins_func (c ++ t) ≡ true → (func_groups true).spells gs c t → 2 ≤ length c
 unfolding func_groups func_group params label name_annotation plain_params val_types val_type ref_type shorthand heap_type abstract_heap_type
 groups_take [] c t k s = absurd (
     let x : group_follows t ≡ true = begins_func_follows t (rw (s.0) at k) in
@@ -102,7 +59,7 @@ function_stands : Stands function_type_no_names
 unfolding function_groups func_groups func_group params label plain_params val_types val_type ref_type shorthand heap_type abstract_heap_type name_annotation past_front
 function_stands = stands function_type_no_names refl
 
-inline_moves : (v : Option FuncTy) (c e r s : List Tok) → opens e ≤ closes e → may_follow s ≡ true → (opt at_func function_type_no_names).spells v c (e ++ r) → (opt at_func function_type_no_names).spells v c (e ++ s)
+inline_moves : (v : Option FunctionTypeModel) (c e r s : List Token) → opens e ≤ closes e → may_follow s ≡ true → (opt at_func function_type_no_names).spells v c (e ++ r) → (opt at_func function_type_no_names).spells v c (e ++ s)
 inline_moves (Some v) c e r s level f h =
     (seen at_func true c (e ++ r) (e ++ s) (groups_take h.1.0.0 c (e ++ r) h.0 h.1.0.1) (omega arith) h.0, function_stands.moves v c e r s level f h.1)
 inline_moves None c e r s level f h = (h.0, settles (ask false at_func) refl e r s level f h.1)
@@ -128,12 +85,12 @@ try_stands = made_stands (seq_stands block_stands (stands (many at_catch catch_c
 
 -- ---- the types of a select
 
-results_take : (vs : List (List ValTy)) (c t : List Tok) → run at_result (c ++ t) ≡ true → many_spells (λ r. run at_result r) result_group vs c t → 2 ≤ length c
+results_take : (vs : List (List ValTypeModel)) (c t : List Token) → run at_result (c ++ t) ≡ true → many_spells (λ r. run at_result r) result_group vs c t → 2 ≤ length c
 unfolding val_types
 results_take [] c t k s = absurd (let x : run at_result t ≡ true = rw (s.0) at k in cc)
 results_take (v ∷ vs) c t k s = rw (s.2) (omega (arith, length-append s.0 s.1, result_group.takes v s.0 (s.1 ++ t) s.4))
 
-select_moves : (v : Option (List ValTy)) (c e r s : List Tok) → opens e ≤ closes e → may_follow s ≡ true → select_types.spells v c (e ++ r) → select_types.spells v c (e ++ s)
+select_moves : (v : Option (List ValTypeModel)) (c e r s : List Token) → opens e ≤ closes e → may_follow s ≡ true → select_types.spells v c (e ++ r) → select_types.spells v c (e ++ s)
 unfolding select_types val_types val_type ref_type shorthand heap_type abstract_heap_type past_front
 select_moves (Some v) c e r s level f h = (
   seen at_result true c (e ++ r) (e ++ s) (results_take h.1.0 c (e ++ r) h.0 h.1.1) (omega arith) h.0,
@@ -146,28 +103,28 @@ select_stands = record { moves = select_moves }
 
 -- ---- an access to a lane takes two tokens or more
 
-index_takes : (o : Option Idx) (c t : List Tok) (text : List ℕ) → opt_spells begins_index index o c (Integer text ∷ t) → 1 ≤ length c
+index_takes : (o : Option IndexModel) (c t : List Token) (text : List ℕ) → opt_spells begins_index index o c (Integer text ∷ t) → 1 ≤ length c
 index_takes (Some i) c t text s = index.takes i c (Integer text ∷ t) s.1
 index_takes None c t text s = absurd (let x : true ≡ false = s.1 in cc)
 
-target_takes : (v : TargetTy) (c t : List Tok) (text : List ℕ) → target.spells v c (Integer text ∷ t) → 1 ≤ length c
+target_takes : (v : MemArgTargetModel) (c t : List Token) (text : List ℕ) → target.spells v c (Integer text ∷ t) → 1 ≤ length c
 unfolding target index_or_0
 target_takes v c t text (inl s) = omega (arith, (group (codes "type") index).takes s.1.0 c (Integer text ∷ t) s.1.1)
 target_takes v c t text (inr s) = index_takes s.1.1.0 c t text s.1.1.1
 
-access_takes : (v : TargetTy) (c d t : List Tok) (text : List ℕ) → target.spells v c (d ++ (Integer text ∷ t)) → 1 ≤ length (c ++ d)
+access_takes : (v : MemArgTargetModel) (c d t : List Token) (text : List ℕ) → target.spells v c (d ++ (Integer text ∷ t)) → 1 ≤ length (c ++ d)
 access_takes v c [] t text s = omega (arith, length-append c [], target_takes v c t text s)
 access_takes v c (x ∷ d) t text s = omega (arith, length-append c (x ∷ d))
 
-mem_arg_takes : (a : ℕ) (v : MemArgTy) (c t : List Tok) (text : List ℕ) → (mem_arg a).spells v c (Integer text ∷ t) → 1 ≤ length c
+mem_arg_takes : (a : ℕ) (v : MemArgModel) (c t : List Token) (text : List ℕ) → (mem_arg a).spells v c (Integer text ∷ t) → 1 ≤ length c
 unfolding mem_arg
 mem_arg_takes a v c t text s = let q = s.1 in rw (q.2) (access_takes s.0.0 q.0 q.1 t text q.3)
 
-lane_takes : (a : ℕ) (v : MemArgTy) (x : Tok) (n : ℕ) (d t : List Tok) → lane_in x ≡ Some n → (mem_arg a).spells v d (x ∷ t) → 1 ≤ length d
+lane_takes : (a : ℕ) (v : MemArgModel) (x : Token) (n : ℕ) (d t : List Token) → lane_in x ≡ Some n → (mem_arg a).spells v d (x ∷ t) → 1 ≤ length d
 lane_takes a v (Integer text) n d t e s = mem_arg_takes a v d t text s
 lane_takes a v _ n d t e s = absurd cc
 
-lane_access_takes : (a : ℕ) (v : LaneAccessTy) (c t : List Tok) → (made access_of (seq (mem_arg a) lane_arg)).spells v c t → 2 ≤ length c
+lane_access_takes : (a : ℕ) (v : LaneAccessModel) (c t : List Token) → (made access_of (seq (mem_arg a) lane_arg)).spells v c t → 2 ≤ length c
 unfolding lane_arg
 lane_access_takes a v c t s =
     let q = s.1 in
@@ -185,15 +142,15 @@ alone_stands : (a : ℕ) → Stands (made (lane_alone a) lane_arg)
 unfolding lane_arg past_front
 alone_stands a = stands (made (lane_alone a) lane_arg) refl
 
-lane_stays : (v : LaneAccessTy) (c e r s : List Tok) → may_follow s ≡ true → opens e ≤ closes e → AreBalanced c → 1 ≤ length c → run at_alone (c ++ (e ++ r)) ≡ true → run at_alone (c ++ (e ++ s)) ≡ true
+lane_stays : (v : LaneAccessModel) (c e r s : List Token) → may_follow s ≡ true → opens e ≤ closes e → AreBalanced c → 1 ≤ length c → run at_alone (c ++ (e ++ r)) ≡ true → run at_alone (c ++ (e ++ s)) ≡ true
 unfolding past_front
 lane_stays v c e r s f level b le k =
     let l = settled_alike off off_second s (is_off s f) (is_off_second s f) (behind 1 (ask true at_alone)) r refl (c ++ e)
     (omega (arith, length-append c e, le)) (omega (arith, opens-append c e, closes-append c e, b, level)) in
-    let old : run at_alone ((c ++ e) ++ r) ≡ true = ap (λ (u : List Tok). run at_alone u) (append_assoc c e r) ∙ k in
-    sym (ap (λ (u : List Tok). run at_alone u) (append_assoc c e s)) ∙ l old
+    let old : run at_alone ((c ++ e) ++ r) ≡ true = ap (λ (u : List Token). run at_alone u) (append_assoc c e r) ∙ k in
+    sym (ap (λ (u : List Token). run at_alone u) (append_assoc c e s)) ∙ l old
 
-lane_access_moves : (a : ℕ) (v : LaneAccessTy) (c e r s : List Tok) → opens e ≤ closes e → may_follow s ≡ true → (lane_access a).spells v c (e ++ r) → (lane_access a).spells v c (e ++ s)
+lane_access_moves : (a : ℕ) (v : LaneAccessModel) (c e r s : List Token) → opens e ≤ closes e → may_follow s ≡ true → (lane_access a).spells v c (e ++ r) → (lane_access a).spells v c (e ++ s)
 unfolding lane_access lane_arg
 lane_access_moves a v c e r s level f (inl h) =
     inl (lane_stays v c e r s f level ((made (lane_alone a) lane_arg).balanced v c (e ++ r) h.1) ((made (lane_alone a) lane_arg).takes v c (e ++ r) h.1) h.0, (alone_stands a).moves v c e r s level f h.1)
@@ -218,10 +175,10 @@ operand_stands h = stands (operand h) refl
 behind_stands : (h : Op) → Stands (behind_word h)
 behind_stands h = made_stands (operand_stands h)
 
-made_moves : (h : Op) (v : Instr) (d r s : List Tok) → may_follow s ≡ true → (behind_word h).spells v d r → (behind_word h).spells v d s
+made_moves : (h : Op) (v : InstructionModel) (d r s : List Token) → may_follow s ≡ true → (behind_word h).spells v d r → (behind_word h).spells v d s
 made_moves h v d r s f k = (behind_stands h).moves v d [] r s (omega arith) f k
 
-pub instruction_stands : (v : Instr) (c r s : List Tok) → instruction.spells v c r → may_follow s ≡ true → instruction.spells v c s
+pub instruction_stands : (v : InstructionModel) (c r s : List Token) → instruction.spells v c r → may_follow s ≡ true → instruction.spells v c s
 unfolding instruction
 instruction_stands v c r s h f =
     (h.0, h.1, h.2, h.3, h.4, made_moves h.0 v h.2 r s f h.5)

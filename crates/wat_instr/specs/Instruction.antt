@@ -1,46 +1,13 @@
 -- Instructions.
-use Rattle.std.specs.Global.{Box}
 use Rattle.std.specs.Prelude.{ℕ, Bool, ◌||◌, ◌==◌, Option, Some, None}
-use Rattle.wat_tokens.specs.Index.{name_of, index_view}
-use Rattle.wat_tokens.specs.Production.{Production}
-use Rattle.wat_tokens.specs.Parts.{made}
-use Rattle.wat_types.specs.Heap.{heap_view}
-use Rattle.wat_types.specs.Label.{no_label}
-use Rattle.wat_types.specs.Use.{use_of}
-use Rattle.wat_operands.specs.Aggregates.{struct_access_view, cont_bind_view, switch_view}
-use Rattle.wat_operands.specs.Aggregates.{array_fill_view, array_copy_view, array_init_view}
-use Rattle.wat_operands.specs.Aggregates.{array_new_fixed_view, array_new_data_view}
-use Rattle.wat_operands.specs.Aggregates.{array_new_elem_view}
-use Rattle.wat_operands.specs.Branch.{br_table_view}
-use Rattle.wat_operands.specs.Lanes.{lane_access_view}
-use Rattle.wat_operands.specs.Memory.{mem_arg_view}
-use Rattle.wat_operands.specs.Ordering.{ordered_view}
-use Rattle.wat_operands.specs.Tables.{table_arg_view, memory_arg_view, table_init_view}
-use Rattle.wat_operands.specs.Tables.{memory_init_view, table_copy_view, memory_copy_view}
-use Rattle.wat_operands.specs.Block.{BlockTy, block_of, block_view}
-use Rattle.wat_operands.specs.Call.{call_view}
-use Rattle.wat_operands.specs.Casts.{test_view, cast_view, cast_desc_eq_view, branch_view}
-use Rattle.wat_operands.specs.Casts.{branch_fail_view, branch_desc_eq_view}
-use Rattle.wat_operands.specs.Casts.{branch_desc_eq_fail_view}
-use Rattle.wat_operands.specs.Catches.{try_view}
-use Rattle.wat_operands.specs.Handlers.{resume_view, resume_throw_view, resume_throw_ref_view}
-use Rattle.wat_operands.specs.Select.{select_view}
-use Rattle.wat_mnemonics.specs.Ops.{op_row}
-use Rattle.wat_mnemonics.specs.Mnemonic.{mnemonic}
+use Rattle.wat_mnemonics.specs.Prelude.{op_row, mnemonic}
+use Rattle.wat_operands.specs.Prelude.{Box, name_of, index_view, Production, made, heap_view, no_label, use_of, struct_access_view, cont_bind_view, switch_view, array_fill_view, array_copy_view, array_init_view, array_new_fixed_view, array_new_data_view, array_new_elem_view, br_table_view, lane_access_view, mem_arg_view, ordered_view, table_arg_view, memory_arg_view, table_init_view, memory_init_view, table_copy_view, memory_copy_view, BlockTypeModel, block_of, block_view, call_view, test_view, cast_view, cast_desc_eq_view, branch_view, branch_fail_view, branch_desc_eq_view, branch_desc_eq_fail_view, try_view, resume_view, resume_throw_view, resume_throw_ref_view, select_view, option_view, Index}
 use Rattle.wat_mnemonics.specs.declared.op.Op.{Op}
-use Rattle.wat_mnemonics.specs.declared.op.Op.TheVariants as ops
-use Rattle.wat_mnemonics.specs.declared.indexed.BlockOp.TheVariants as block
-use Rattle.wat_mnemonics.specs.declared.indexed.IndexedOp.TheVariants as indexed
-use Rattle.wat_mnemonics.specs.declared.indexed.LabelOp.TheVariants as label
 use Rattle.wat_tokens.specs.Followed.{followed}
-use Rattle.wat_tokens.specs.Views.{option_view}
-use Rattle.wat_instr.specs.Operand.{Operand, bare_operand, operand}
-use Rattle.wat_instr.specs.Operand as operands
+use Rattle.wat_instr.specs.Operand.{Operand, heapless_operand, operand}
 use Rattle.wat_instr.specs.declared.instruction.InstructionOf.{InstructionOf}
-use Rattle.wat_instr.specs.declared.instruction.InstructionOf.TheVariants as code
 use Rattle.wat_operands.specs.declared.block.BlockType.{BlockType}
 use Rattle.wat_tokens.specs.declared.index.Id.{Id}
-use Rattle.wat_tokens.specs.declared.index.Index.{Index}
 use Rattle.wat_operands.specs.declared.call.CallIndirect.{CallIndirect}
 use Rattle.wat_operands.specs.declared.memory.MemArg.{MemArg}
 use Rattle.wat_operands.specs.declared.select.SelectTypes.{SelectTypes}
@@ -53,6 +20,12 @@ use Rattle.wat_operands.specs.declared.catches.TryTable.{TryTable}
 use Rattle.wat_operands.specs.declared.casts.RefCastDescEq.{RefCastDescEq}
 use Rattle.wat_operands.specs.declared.casts.BrOnCastDescEq.{BrOnCastDescEq}
 use Rattle.wat_operands.specs.declared.casts.BrOnCastDescEqFail.{BrOnCastDescEqFail}
+use Rattle.wat_mnemonics.specs.declared.op.Op.TheVariants as ops
+use Rattle.wat_mnemonics.specs.declared.indexed.BlockOp.TheVariants as block
+use Rattle.wat_mnemonics.specs.declared.indexed.IndexedOp.TheVariants as indexed
+use Rattle.wat_mnemonics.specs.declared.indexed.LabelOp.TheVariants as label
+use Rattle.wat_instr.specs.Operand as operands
+use Rattle.wat_instr.specs.declared.instruction.InstructionOf.TheVariants as code
 
 -- an instruction that borrows from a text
 abbrev pub Instruction : Type 0
@@ -119,11 +92,11 @@ op_in (code.br_on_cast_desc_eq x) = ops.br_on_cast_desc_eq
 op_in (code.br_on_cast_desc_eq_fail x) = ops.br_on_cast_desc_eq_fail
 
 -- the block type without a label, name or type
-abbrev pub no_block : BlockTy
+abbrev pub no_block : BlockTypeModel
 no_block = block_of no_label (use_of None None)
 
 -- the block type of an optional box; None is the block type without a label, name or type
-abbrev pub block_in : Option (Box BlockType) → BlockTy
+abbrev pub block_in : Option (Box BlockType) → BlockTypeModel
 block_in (Some b) = block_view b.value
 block_in None = no_block
 
@@ -181,28 +154,28 @@ operand_in (code.br_on_cast_desc_eq x) = operands.cast (branch_desc_eq_view x.va
 operand_in (code.br_on_cast_desc_eq_fail x) = operands.cast (branch_desc_eq_fail_view x.value)
 
 -- an instruction, without places: the number of its row, and its operand
-pub record Instr : Type 0 where
+pub record InstructionModel : Type 0 where
   pub row : ℕ
   pub operand : Operand
 
-abbrev pub instr_of : Op → Operand → Instr
+abbrev pub instr_of : Op → Operand → InstructionModel
 instr_of h o = record { row = op_row h; operand = o }
 
-abbrev pub instruction_view : Instruction → Instr
+abbrev pub instruction_view : Instruction → InstructionModel
 instruction_view i = instr_of (op_in i) (operand_in i)
 
 -- the operand owns no memory
-abbrev pub bare_instruction : Instr → Bool
-bare_instruction i = bare_operand i.operand
+abbrev pub heapless_instruction : InstructionModel → Bool
+heapless_instruction i = heapless_operand i.operand
 
 -- ---- the grammar
 
 -- an instruction, after its mnemonic
-abbrev pub behind_word : Op → Production Instr
+abbrev pub behind_word : Op → Production InstructionModel
 behind_word h = made (instr_of h) (operand h)
 
 -- the mnemonic, then the operand
-unfoldable pub instruction : Production Instr
+unfoldable pub instruction : Production InstructionModel
 instruction = followed mnemonic behind_word
 
 -- ---- instructions that expressions distinguish
@@ -222,9 +195,9 @@ abbrev pub is_br_if : ℕ → Bool
 is_br_if n = n == op_row (ops.Indexed indexed.br_if)
 
 -- `else` without a label
-abbrev pub else_instr : Instr
+abbrev pub else_instr : InstructionModel
 else_instr = instr_of (ops.Label label.else_) (operands.label None)
 
 -- `end` without a label
-abbrev pub end_instr : Instr
+abbrev pub end_instr : InstructionModel
 end_instr = instr_of (ops.Label label.end) (operands.label None)

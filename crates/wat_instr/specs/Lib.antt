@@ -7,3 +7,4 @@ pub mod Operand
 pub mod OperandOf
 pub mod Reading
 pub mod Same
+pub mod Prelude

@@ -1,77 +1,53 @@
 -- Operands: the tokens after the mnemonic of an instruction.
 use Rattle.std.specs.Prelude.{ℕ, ℤ, Bool, true, false, not, ◌||◌, List, Option, is_some}
-use Rattle.wat_tokens.specs.Production.{Production}
-use Rattle.wat_tokens.specs.Parts.{made, opt}
-use Rattle.wat_tokens.specs.Index.{Idx, identifier, index}
-use Rattle.wat_tokens.specs.Test.{at_id}
-use Rattle.wat_tokens.specs.Integers.{signed}
-use Rattle.wat_tokens.specs.Floats.{none}
-use Rattle.wat_types.specs.Heap.{HeapTy, heap_type}
-use Rattle.wat_types.specs.Label.{labelled}
-use Rattle.wat_types.specs.Reference.{RefTy, ref_type}
-use Rattle.wat_types.specs.Value.{ValTy}
-use Rattle.wat_operands.specs.Aggregates.{array_of_length}
-use Rattle.wat_operands.specs.Branch.{BrTableTy, bare_br_table}
-use Rattle.wat_operands.specs.BranchTable.{br_table}
-use Rattle.wat_operands.specs.Lanes.{LaneAccessTy, lane_arg}
-use Rattle.wat_operands.specs.Lanes as lanes
-use Rattle.wat_operands.specs.Memory.{MemArgTy, mem_arg, atomic_mem_arg}
-use Rattle.wat_operands.specs.Ordering.{ordering, at_ordering, ordered}
-use Rattle.wat_operands.specs.Tables.{index_or_0, index_pair, init, copy}
-use Rattle.wat_operands.specs.Vector.{v128_const, shuffle}
+use Rattle.wat_operands.specs.Prelude.{Production, made, opt, IndexModel, identifier, index, at_id, signed, none, HeapTypeModel, heap_type, labelled, RefTypeModel, ref_type, ValTypeModel, array_of_length, BrTableModel, heapless_br_table, br_table, LaneAccessModel, lane_arg, MemArgModel, mem_arg, atomic_mem_arg, ordering, at_ordering, ordered, index_or_0, index_pair, init, copy, v128_const, shuffle, BlockTypeModel, block_type, CallIndirectModel, call_indirect, CastBranchModel, cast_branch, TryTableModel, try_table, ResumeModel, resume, ResumeThrowModel, resume_throw, select_types, blank}
+use Rattle.wat_operands.specs.Handlers.{heapless_resume}
+use Rattle.wat_operands.specs.Select.{heapless_select}
 use Rattle.wat_operands.specs.declared.lanes.LaneArg.{LaneArg}
 use Rattle.wat_operands.specs.declared.ordering.Ordering.{Ordering}
 use Rattle.wat_operands.specs.declared.vector.I8x16Shuffle.{I8x16Shuffle}
 use Rattle.wat_operands.specs.declared.vector.V128Const.{V128Const}
-use Rattle.wat_operands.specs.Block.{BlockTy, block_type}
-use Rattle.wat_operands.specs.Call.{CallTy, call_indirect}
-use Rattle.wat_operands.specs.Casts.{BranchTy, cast_branch}
-use Rattle.wat_operands.specs.Catches.{TryTy, try_table}
-use Rattle.wat_operands.specs.Handlers.{ResumeTy, bare_resume, resume, ThrowTy}
-use Rattle.wat_operands.specs.Handlers.{resume_throw}
-use Rattle.wat_operands.specs.Select.{bare_select, select_types}
-use Rattle.wat_mnemonics.specs.Access.{access_align, atomic_access_align, rmw_access_align}
-use Rattle.wat_mnemonics.specs.Access.{lane_access_align}
+use Rattle.wat_mnemonics.specs.Access.{access_align, atomic_access_align, rmw_access_align, lane_access_align}
 use Rattle.wat_mnemonics.specs.declared.op.Op.{Op}
+use Rattle.wat_operands.specs.Lanes as lanes
 use Rattle.wat_mnemonics.specs.declared.op.Op.TheVariants as ops
-use Rattle.wat_tokens.specs.Followed.{blank}
 
 -- an operand without places; boxes are seen as their contents, and vectors as their items
 pub data Operand : Type 0 where
   -- no operand
   nothing : Operand
   -- the block type of a block
-  block : BlockTy → Operand
+  block : BlockTypeModel → Operand
   -- the optional label of `else` and `end`
   label : Option (List ℕ) → Operand
   -- an index, also of a table or a memory
-  one_index : Idx → Operand
+  one_index : IndexModel → Operand
   -- two indices
-  two_indices : Idx × Idx → Operand
+  two_indices : IndexModel × IndexModel → Operand
   -- the labels of a `br_table`
-  branches : BrTableTy → Operand
+  branches : BrTableModel → Operand
   -- the operand of an indirect call
-  call : CallTy → Operand
+  call : CallIndirectModel → Operand
   -- the types of a `select`
-  chosen : Option (List ValTy) → Operand
+  chosen : Option (List ValTypeModel) → Operand
   -- the operand of a memory access
-  access : MemArgTy → Operand
+  access : MemArgModel → Operand
   -- the ordering and the index of an atomic access
-  ordered_index : Ordering × Idx → Operand
+  ordered_index : Ordering × IndexModel → Operand
   -- the ordering and the two indices of an atomic access
-  ordered_indices : Ordering × (Idx × Idx) → Operand
+  ordered_indices : Ordering × (IndexModel × IndexModel) → Operand
   -- the operand of an access to one lane
-  lane_access : LaneAccessTy → Operand
+  lane_access : LaneAccessModel → Operand
   -- a lane
   lane : LaneArg → Operand
   -- a heap type
-  heap : HeapTy → Operand
+  heap : HeapTypeModel → Operand
   -- a type and a length
-  sized : Idx × ℕ → Operand
+  sized : IndexModel × ℕ → Operand
   -- a reference type
-  reference : RefTy → Operand
+  reference : RefTypeModel → Operand
   -- the operand of a branch on a cast
-  cast : BranchTy → Operand
+  cast : CastBranchModel → Operand
   -- an integer
   integer : ℤ → Operand
   -- a floating-point number, as its bits
@@ -83,44 +59,28 @@ pub data Operand : Type 0 where
   -- the lanes of a shuffle
   shuffled : I8x16Shuffle → Operand
   -- the operand of a `try_table`
-  caught : TryTy → Operand
+  caught : TryTableModel → Operand
   -- a type and handlers
-  resumed : ResumeTy → Operand
+  resumed : ResumeModel → Operand
   -- a type, a tag and handlers
-  thrown : ThrowTy → Operand
+  thrown : ResumeThrowModel → Operand
 
 -- the block has a label, a name or a type
-abbrev pub says_something : BlockTy → Bool
+abbrev pub says_something : BlockTypeModel → Bool
 says_something b = labelled b.label || (is_some b.ty.index || is_some b.ty.inline)
 
 -- The operand owns no memory: no box, and no vector with items. A block without a label, name or
 -- type needs no box.
-abbrev pub bare_operand : Operand → Bool
-bare_operand nothing = true
-bare_operand (block x) = not (says_something x)
-bare_operand (label x) = true
-bare_operand (one_index x) = true
-bare_operand (two_indices x) = true
-bare_operand (branches x) = bare_br_table x
-bare_operand (call x) = false
-bare_operand (chosen x) = bare_select x
-bare_operand (access x) = true
-bare_operand (ordered_index x) = true
-bare_operand (ordered_indices x) = true
-bare_operand (lane_access x) = true
-bare_operand (lane x) = true
-bare_operand (heap x) = true
-bare_operand (sized x) = true
-bare_operand (reference x) = true
-bare_operand (cast x) = false
-bare_operand (integer x) = true
-bare_operand (float x) = true
-bare_operand (fence x) = true
-bare_operand (vector x) = true
-bare_operand (shuffled x) = true
-bare_operand (caught x) = false
-bare_operand (resumed x) = bare_resume x
-bare_operand (thrown x) = false
+abbrev pub heapless_operand : Operand → Bool
+heapless_operand (block x) = not (says_something x)
+heapless_operand (branches x) = heapless_br_table x
+heapless_operand (call x) = false
+heapless_operand (chosen x) = heapless_select x
+heapless_operand (cast x) = false
+heapless_operand (caught x) = false
+heapless_operand (resumed x) = heapless_resume x
+heapless_operand (thrown x) = false
+heapless_operand _ = true
 
 -- the production of the operand of an instruction, as 50 cases
 unfoldable pub operand : Op → Production Operand

@@ -1,7 +1,7 @@
 -- When an instruction is a copy of another instruction.
-use Rattle.std.specs.Global.{Box}
 use Rattle.std.specs.Prelude.{◌≡◌, true, false, Option, Some, None}
-use Rattle.wat_operands.specs.Block.{SameBlock, block_view}
+use Rattle.std.specs.Global.{Box}
+use Rattle.wat_operands.specs.Block.{block_view, SameBlock}
 use Rattle.wat_operands.specs.declared.block.BlockType.{BlockType}
 use Rattle.wat_operands.specs.Call.{SameCall}
 use Rattle.wat_operands.specs.Catches.{SameTry}

@@ -2,7 +2,7 @@
 
 ghost use Rattle.wat_tokens.specs.Copies.{Copies};
 ghost use Rattle.wat_tokens.specs.Views.{owning};
-ghost use Rattle.wat_instr.specs.Instruction.{instruction_view, bare_instruction};
+ghost use Rattle.wat_instr.specs.Instruction.{instruction_view, heapless_instruction};
 ghost use Rattle.wat_instr.specs.Same.{SameInstruction};
 ghost use Rattle.wat_instr.specs.declared.instruction.InstructionOf.TheVariants as code;
 
@@ -21,7 +21,8 @@ impl<'a> Instruction<'a> {
     /// The only error is Memory. It is possible only if the operand is in a box or has a list that
     /// isn't empty.
     pub fn clone(&self) -> Result<Instruction<'a>>
-        ensures copies { Copies SameInstruction (owning instruction_view bare_instruction) result
+        ensures copies { Copies SameInstruction (owning instruction_view heapless_instruction)
+            result
             self.now }
     {
         let same = match self {
@@ -179,7 +180,7 @@ impl<'a> Instruction<'a> {
 /// Copies `block`, `loop`, `if` or `try` with its block type.
 #[tactic(auto, using(crate::proofs::Blocks::nothing_said))]
 fn clone_block<'a>(op: BlockOp, x: &Option<Box<BlockType<'a>>>) -> Result<Instruction<'a>>
-    ensures copies { Copies SameInstruction (owning instruction_view bare_instruction) result
+    ensures copies { Copies SameInstruction (owning instruction_view heapless_instruction) result
         (code.Block op x.now) }
 {
     match x {
@@ -193,7 +194,7 @@ fn clone_block<'a>(op: BlockOp, x: &Option<Box<BlockType<'a>>>) -> Result<Instru
 
 /// Copies `else` or `end` with its label.
 fn clone_label<'a>(op: LabelOp, x: &Option<Id<'a>>) -> Result<Instruction<'a>>
-    ensures copies { Copies SameInstruction (owning instruction_view bare_instruction) result
+    ensures copies { Copies SameInstruction (owning instruction_view heapless_instruction) result
         (code.Label op x.now) }
 {
     Ok(Instruction::Label(op, *x))
@@ -201,7 +202,7 @@ fn clone_label<'a>(op: LabelOp, x: &Option<Id<'a>>) -> Result<Instruction<'a>>
 
 /// Copies an instruction with an index.
 fn clone_indexed<'a>(op: IndexedOp, x: &Index<'a>) -> Result<Instruction<'a>>
-    ensures copies { Copies SameInstruction (owning instruction_view bare_instruction) result
+    ensures copies { Copies SameInstruction (owning instruction_view heapless_instruction) result
         (code.Indexed op x.now) }
 {
     Ok(Instruction::Indexed(op, *x))
@@ -209,7 +210,7 @@ fn clone_indexed<'a>(op: IndexedOp, x: &Index<'a>) -> Result<Instruction<'a>>
 
 /// Copies an indirect call.
 fn clone_call_indirect<'a>(op: CallIndirectOp, x: &Box<CallIndirect<'a>>) -> Result<Instruction<'a>>
-    ensures copies { Copies SameInstruction (owning instruction_view bare_instruction) result
+    ensures copies { Copies SameInstruction (owning instruction_view heapless_instruction) result
         (code.CallIndirect op x.now) }
 {
     let same = CallIndirect::clone(x)?;
@@ -218,7 +219,7 @@ fn clone_call_indirect<'a>(op: CallIndirectOp, x: &Box<CallIndirect<'a>>) -> Res
 
 /// Copies `br_table`.
 fn clone_br_table<'a>(x: &BrTableIndices<'a>) -> Result<Instruction<'a>>
-    ensures copies { Copies SameInstruction (owning instruction_view bare_instruction) result
+    ensures copies { Copies SameInstruction (owning instruction_view heapless_instruction) result
         (code.br_table x.now) }
 {
     match x.clone() {
@@ -229,7 +230,7 @@ fn clone_br_table<'a>(x: &BrTableIndices<'a>) -> Result<Instruction<'a>>
 
 /// Copies `select`.
 fn clone_select<'a>(x: &SelectTypes<'a>) -> Result<Instruction<'a>>
-    ensures copies { Copies SameInstruction (owning instruction_view bare_instruction) result
+    ensures copies { Copies SameInstruction (owning instruction_view heapless_instruction) result
         (code.select x.now) }
 {
     match x.clone() {
@@ -240,7 +241,7 @@ fn clone_select<'a>(x: &SelectTypes<'a>) -> Result<Instruction<'a>>
 
 /// Copies `br_on_cast`.
 fn clone_br_on_cast<'a>(x: &Box<BrOnCast<'a>>) -> Result<Instruction<'a>>
-    ensures copies { Copies SameInstruction (owning instruction_view bare_instruction) result
+    ensures copies { Copies SameInstruction (owning instruction_view heapless_instruction) result
         (code.br_on_cast x.now) }
 {
     match x.clone() {
@@ -251,7 +252,7 @@ fn clone_br_on_cast<'a>(x: &Box<BrOnCast<'a>>) -> Result<Instruction<'a>>
 
 /// Copies `br_on_cast_fail`.
 fn clone_br_on_cast_fail<'a>(x: &Box<BrOnCastFail<'a>>) -> Result<Instruction<'a>>
-    ensures copies { Copies SameInstruction (owning instruction_view bare_instruction) result
+    ensures copies { Copies SameInstruction (owning instruction_view heapless_instruction) result
         (code.br_on_cast_fail x.now) }
 {
     match x.clone() {
@@ -262,7 +263,7 @@ fn clone_br_on_cast_fail<'a>(x: &Box<BrOnCastFail<'a>>) -> Result<Instruction<'a
 
 /// Copies `try_table`.
 fn clone_try_table<'a>(x: &TryTable<'a>) -> Result<Instruction<'a>>
-    ensures copies { Copies SameInstruction (owning instruction_view bare_instruction) result
+    ensures copies { Copies SameInstruction (owning instruction_view heapless_instruction) result
         (code.try_table x.now) }
 {
     match x.clone() {
@@ -273,7 +274,7 @@ fn clone_try_table<'a>(x: &TryTable<'a>) -> Result<Instruction<'a>>
 
 /// Copies `resume`.
 fn clone_resume<'a>(x: &Resume<'a>) -> Result<Instruction<'a>>
-    ensures copies { Copies SameInstruction (owning instruction_view bare_instruction) result
+    ensures copies { Copies SameInstruction (owning instruction_view heapless_instruction) result
         (code.resume x.now) }
 {
     match x.clone() {
@@ -284,7 +285,7 @@ fn clone_resume<'a>(x: &Resume<'a>) -> Result<Instruction<'a>>
 
 /// Copies `resume_throw`.
 fn clone_resume_throw<'a>(x: &Box<ResumeThrow<'a>>) -> Result<Instruction<'a>>
-    ensures copies { Copies SameInstruction (owning instruction_view bare_instruction) result
+    ensures copies { Copies SameInstruction (owning instruction_view heapless_instruction) result
         (code.resume_throw x.now) }
 {
     let same = ResumeThrow::clone(x)?;
@@ -293,7 +294,7 @@ fn clone_resume_throw<'a>(x: &Box<ResumeThrow<'a>>) -> Result<Instruction<'a>>
 
 /// Copies `resume_throw_ref`.
 fn clone_resume_throw_ref<'a>(x: &ResumeThrowRef<'a>) -> Result<Instruction<'a>>
-    ensures copies { Copies SameInstruction (owning instruction_view bare_instruction) result
+    ensures copies { Copies SameInstruction (owning instruction_view heapless_instruction) result
         (code.resume_throw_ref x.now) }
 {
     match x.clone() {
@@ -304,7 +305,7 @@ fn clone_resume_throw_ref<'a>(x: &ResumeThrowRef<'a>) -> Result<Instruction<'a>>
 
 /// Copies `br_on_cast_desc_eq`.
 fn clone_br_on_cast_desc_eq<'a>(x: &Box<BrOnCastDescEq<'a>>) -> Result<Instruction<'a>>
-    ensures copies { Copies SameInstruction (owning instruction_view bare_instruction) result
+    ensures copies { Copies SameInstruction (owning instruction_view heapless_instruction) result
         (code.br_on_cast_desc_eq x.now) }
 {
     match x.clone() {
@@ -315,7 +316,7 @@ fn clone_br_on_cast_desc_eq<'a>(x: &Box<BrOnCastDescEq<'a>>) -> Result<Instructi
 
 /// Copies `br_on_cast_desc_eq_fail`.
 fn clone_br_on_cast_desc_eq_fail<'a>(x: &Box<BrOnCastDescEqFail<'a>>) -> Result<Instruction<'a>>
-    ensures copies { Copies SameInstruction (owning instruction_view bare_instruction) result
+    ensures copies { Copies SameInstruction (owning instruction_view heapless_instruction) result
         (code.br_on_cast_desc_eq_fail x.now) }
 {
     match x.clone() {

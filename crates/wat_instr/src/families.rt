@@ -2,16 +2,13 @@
 #![tactic(auto, unfolding(crate::specs::Reading::ReadsOperand, crate::specs::Operand::operand))]
 
 ghost use Rattle.std.specs.Prelude.{◌≡◌, IfOk, IfErr, refl, true};
+ghost use Rattle.wat_operands.specs.Prelude.{array_init_view, struct_access_view, block_view, ordered_view, memory_arg_view, table_arg_view, index_view};
 ghost use Rattle.wat_instr.specs.Instruction.{block_in};
 ghost use Rattle.wat_instr.specs.Operand.{operand, says_something};
-ghost use Rattle.wat_instr.specs.Operand as operands;
+ghost use Rattle.wat_instr.specs.OperandOf.{made_by};
 ghost use Rattle.wat_instr.specs.Reading.{ReadsOperand};
+ghost use Rattle.wat_instr.specs.Operand as operands;
 ghost use Rattle.wat_mnemonics.specs.declared.op.Op.TheVariants as ops;
-ghost use Rattle.wat_operands.specs.Aggregates.{array_init_view, struct_access_view};
-ghost use Rattle.wat_operands.specs.Block.{block_view};
-ghost use Rattle.wat_operands.specs.Ordering.{ordered_view};
-ghost use Rattle.wat_operands.specs.Tables.{memory_arg_view, table_arg_view};
-ghost use Rattle.wat_tokens.specs.Index.{index_view};
 
 use crate::instruction::Instruction;
 use crate::operand::OperandOf;
@@ -54,7 +51,7 @@ fn boxed<'a>(alloc: Global, block: BlockType<'a>) -> Result<Option<Box<BlockType
 
 /// Parses the block type of `block`, `loop`, `if` or `try`.
 #[inline(always)]
-#[tactic(auto, unfolding(crate::specs::Reading::ReadsOperand, crate::specs::Operand::operand), using(crate::proofs::Blocks::not_bare))]
+#[tactic(auto, unfolding(crate::specs::Reading::ReadsOperand, crate::specs::Operand::operand), using(crate::proofs::Blocks::not_heapless))]
 pub(crate) fn read_block<'a, P: Sink<'a>>(
     op: BlockOp,
     parser: &mut Parser<'a>,
@@ -102,13 +99,8 @@ impl<'a> OperandOf<'a, IndexedOp> for Index<'a> {
 
     ghost seen = { λ x. operands.one_index (index_view x) };
 
-    ghost is_operand = { λ op. record {
-      make = operands.one_index;
-      reads = λ t. unfold operand in refl;
-      sees = λ x. refl;
-      bare = λ v. refl;
-      cost = refl;
-    } };
+    ghost is_operand = { λ op. made_by operands.one_index (λ t. unfold operand in refl)
+        (λ v. refl) };
 
     #[inline(always)]
     fn instruction(self, op: IndexedOp) -> Instruction<'a> {
@@ -141,13 +133,8 @@ impl<'a> OperandOf<'a, TableOp> for TableArg<'a> {
 
     ghost seen = { λ x. operands.one_index (table_arg_view x) };
 
-    ghost is_operand = { λ op. record {
-      make = operands.one_index;
-      reads = λ t. unfold operand in refl;
-      sees = λ x. refl;
-      bare = λ v. refl;
-      cost = refl;
-    } };
+    ghost is_operand = { λ op. made_by operands.one_index (λ t. unfold operand in refl)
+        (λ v. refl) };
 
     #[inline(always)]
     fn instruction(self, op: TableOp) -> Instruction<'a> {
@@ -181,13 +168,8 @@ impl<'a> OperandOf<'a, MemoryOp> for MemoryArg<'a> {
 
     ghost seen = { λ x. operands.one_index (memory_arg_view x) };
 
-    ghost is_operand = { λ op. record {
-      make = operands.one_index;
-      reads = λ t. unfold operand in refl;
-      sees = λ x. refl;
-      bare = λ v. refl;
-      cost = refl;
-    } };
+    ghost is_operand = { λ op. made_by operands.one_index (λ t. unfold operand in refl)
+        (λ v. refl) };
 
     #[inline(always)]
     fn instruction(self, op: MemoryOp) -> Instruction<'a> {
@@ -201,13 +183,8 @@ impl<'a> OperandOf<'a, StructOp> for StructAccess<'a> {
 
     ghost seen = { λ x. operands.two_indices (struct_access_view x) };
 
-    ghost is_operand = { λ op. record {
-      make = operands.two_indices;
-      reads = λ t. unfold operand in refl;
-      sees = λ x. refl;
-      bare = λ v. refl;
-      cost = refl;
-    } };
+    ghost is_operand = { λ op. made_by operands.two_indices (λ t. unfold operand in refl)
+        (λ v. refl) };
 
     #[inline(always)]
     fn instruction(self, op: StructOp) -> Instruction<'a> {
@@ -221,13 +198,8 @@ impl<'a> OperandOf<'a, ArrayInitOp> for ArrayInit<'a> {
 
     ghost seen = { λ x. operands.two_indices (array_init_view x) };
 
-    ghost is_operand = { λ op. record {
-      make = operands.two_indices;
-      reads = λ t. unfold operand in refl;
-      sees = λ x. refl;
-      bare = λ v. refl;
-      cost = refl;
-    } };
+    ghost is_operand = { λ op. made_by operands.two_indices (λ t. unfold operand in refl)
+        (λ v. refl) };
 
     #[inline(always)]
     fn instruction(self, op: ArrayInitOp) -> Instruction<'a> {
@@ -279,13 +251,8 @@ impl<'a> OperandOf<'a, OrderedIndexOp> for Ordered<Index<'a>> {
 
     ghost seen = { λ x. operands.ordered_index (ordered_view index_view x) };
 
-    ghost is_operand = { λ op. record {
-      make = operands.ordered_index;
-      reads = λ t. unfold operand in refl;
-      sees = λ x. refl;
-      bare = λ v. refl;
-      cost = refl;
-    } };
+    ghost is_operand = { λ op. made_by operands.ordered_index (λ t. unfold operand in refl)
+        (λ v. refl) };
 
     #[inline(always)]
     fn instruction(self, op: OrderedIndexOp) -> Instruction<'a> {
@@ -299,13 +266,8 @@ impl<'a> OperandOf<'a, OrderedTableOp> for Ordered<TableArg<'a>> {
 
     ghost seen = { λ x. operands.ordered_index (ordered_view table_arg_view x) };
 
-    ghost is_operand = { λ op. record {
-      make = operands.ordered_index;
-      reads = λ t. unfold operand in refl;
-      sees = λ x. refl;
-      bare = λ v. refl;
-      cost = refl;
-    } };
+    ghost is_operand = { λ op. made_by operands.ordered_index (λ t. unfold operand in refl)
+        (λ v. refl) };
 
     #[inline(always)]
     fn instruction(self, op: OrderedTableOp) -> Instruction<'a> {
@@ -319,13 +281,8 @@ impl<'a> OperandOf<'a, OrderedStructOp> for Ordered<StructAccess<'a>> {
 
     ghost seen = { λ x. operands.ordered_indices (ordered_view struct_access_view x) };
 
-    ghost is_operand = { λ op. record {
-      make = operands.ordered_indices;
-      reads = λ t. unfold operand in refl;
-      sees = λ x. refl;
-      bare = λ v. refl;
-      cost = refl;
-    } };
+    ghost is_operand = { λ op. made_by operands.ordered_indices (λ t. unfold operand in refl)
+        (λ v. refl) };
 
     #[inline(always)]
     fn instruction(self, op: OrderedStructOp) -> Instruction<'a> {
@@ -358,13 +315,7 @@ impl<'a> OperandOf<'a, LaneOp> for LaneArg {
 
     ghost seen = { operands.lane };
 
-    ghost is_operand = { λ op. record {
-      make = operands.lane;
-      reads = λ t. unfold operand in refl;
-      sees = λ x. refl;
-      bare = λ v. refl;
-      cost = refl;
-    } };
+    ghost is_operand = { λ op. made_by operands.lane (λ t. unfold operand in refl) (λ v. refl) };
 
     #[inline(always)]
     fn instruction(self, op: LaneOp) -> Instruction<'a> {
@@ -374,7 +325,7 @@ impl<'a> OperandOf<'a, LaneOp> for LaneArg {
 
 /// Appends an instruction without an operand that is not a vector instruction.
 #[inline(always)]
-pub(crate) fn bare_scalar<'a, P: Sink<'a>>(
+pub(crate) fn put_scalar<'a, P: Sink<'a>>(
     op: ScalarOp,
     parser: &mut Parser<'a>,
     out: &mut P,
@@ -389,7 +340,7 @@ pub(crate) fn bare_scalar<'a, P: Sink<'a>>(
 
 /// Appends a vector instruction without an operand.
 #[inline(always)]
-pub(crate) fn bare_vector<'a, P: Sink<'a>>(
+pub(crate) fn put_vector<'a, P: Sink<'a>>(
     op: VectorOp,
     parser: &mut Parser<'a>,
     out: &mut P,

@@ -2,11 +2,8 @@
 #![tactic(auto, unfolding(crate::specs::Reading::ReadsOperand))]
 
 ghost use Rattle.std.specs.Prelude.{◌≡◌};
+ghost use Rattle.wat_instr.specs.Prelude.{instr_of, instruction_view, Operand, ReadsOperand, Op};
 ghost use Rattle.wat_instr.specs.OperandOf.{IsOperandOf};
-ghost use Rattle.wat_instr.specs.Instruction.{instr_of, instruction_view};
-ghost use Rattle.wat_instr.specs.Operand.{Operand};
-ghost use Rattle.wat_instr.specs.Reading.{ReadsOperand};
-ghost use Rattle.wat_mnemonics.specs.declared.op.Op.{Op};
 
 use crate::instruction::Instruction;
 use crate::sink::Sink;
@@ -32,7 +29,7 @@ pub(crate) trait OperandOf<'a, Family>: Parse<'a> {
 
 /// Parses an operand, and appends the instruction to `out`.
 #[inline(always)]
-pub(crate) fn read_as<'a, Family: Copy, T: OperandOf<'a, Family>, P: Sink<'a>>(
+pub(crate) fn read_operand<'a, Family: Copy, T: OperandOf<'a, Family>, P: Sink<'a>>(
     op: Family,
     parser: &mut Parser<'a>,
     out: &mut P,
@@ -50,8 +47,8 @@ pub(crate) fn read_as<'a, Family: Copy, T: OperandOf<'a, Family>, P: Sink<'a>>(
     }
 }
 
-/// Calls `read_as` without inlining, for rare instructions.
-pub(crate) fn read_apart<'a, Family: Copy, T: OperandOf<'a, Family>, P: Sink<'a>>(
+/// Calls `read_operand` without inlining, for rare instructions.
+pub(crate) fn read_rare_operand<'a, Family: Copy, T: OperandOf<'a, Family>, P: Sink<'a>>(
     op: Family,
     parser: &mut Parser<'a>,
     out: &mut P,
@@ -60,5 +57,5 @@ pub(crate) fn read_apart<'a, Family: Copy, T: OperandOf<'a, Family>, P: Sink<'a>
     ensures { ReadsOperand (T.op_of op) (P.seen out.old) (P.seen out.new) result parser.old
         parser.new }
 {
-    read_as::<Family, T, P>(op, parser, out)
+    read_operand::<Family, T, P>(op, parser, out)
 }

@@ -1,9 +1,9 @@
 //! The mnemonic and the opcode of an instruction, and tests for blocks, `if` and `br_if`.
 
 ghost use Rattle.std.specs.Prelude.{◌≡◌};
-ghost use Rattle.wat_mnemonics.specs.Ops.{op_row, op_word, op_opcode};
+ghost use Rattle.wat_instr.specs.Prelude.{op_row, op_word, op_in, instruction_view, is_block, is_if, is_br_if};
+ghost use Rattle.wat_mnemonics.specs.Ops.{op_opcode};
 ghost use Rattle.wat_mnemonics.specs.Opcodes.{bytes, Appends};
-ghost use Rattle.wat_instr.specs.Instruction.{op_in, instruction_view, is_block, is_if, is_br_if};
 
 use crate::instruction::{Instruction, InstructionOf};
 use std::fmt;

@@ -1,8 +1,8 @@
 //! Operands of instructions that don't share their kind of operand.
 
 ghost use Rattle.std.specs.Prelude.{Some, None, refl};
-ghost use Rattle.wat_instr.specs.Instruction.{operand_in};
-ghost use Rattle.wat_instr.specs.Operand.{operand};
+ghost use Rattle.wat_instr.specs.Prelude.{operand_in, operand};
+ghost use Rattle.wat_instr.specs.OperandOf.{made_by};
 ghost use Rattle.wat_instr.specs.Operand as operands;
 ghost use Rattle.wat_instr.specs.declared.instruction.InstructionOf.TheVariants as code;
 ghost use Rattle.wat_mnemonics.specs.declared.op.Op.TheVariants as ops;
@@ -24,13 +24,7 @@ impl<'a> OperandOf<'a, ()> for BrTableIndices<'a> {
 
     ghost seen = { λ x. operand_in (code.br_table x) };
 
-    ghost is_operand = { λ _. record {
-      make = operands.branches;
-      reads = λ t. unfold operand in refl;
-      sees = λ x. refl;
-      bare = λ v. refl;
-      cost = refl;
-    } };
+    ghost is_operand = { λ _. made_by operands.branches (λ t. unfold operand in refl) (λ v. refl) };
 
     #[inline(always)]
     fn instruction(self, _: ()) -> Instruction<'a> {
@@ -44,13 +38,7 @@ impl<'a> OperandOf<'a, ()> for SelectTypes<'a> {
 
     ghost seen = { λ x. operand_in (code.select x) };
 
-    ghost is_operand = { λ _. record {
-      make = operands.chosen;
-      reads = λ t. unfold operand in refl;
-      sees = λ x. refl;
-      bare = λ v. refl;
-      cost = refl;
-    } };
+    ghost is_operand = { λ _. made_by operands.chosen (λ t. unfold operand in refl) (λ v. refl) };
 
     #[inline(always)]
     fn instruction(self, _: ()) -> Instruction<'a> {
@@ -64,13 +52,8 @@ impl<'a> OperandOf<'a, ()> for MemoryInit<'a> {
 
     ghost seen = { λ x. operand_in (code.memory_init x) };
 
-    ghost is_operand = { λ _. record {
-      make = operands.two_indices;
-      reads = λ t. unfold operand in refl;
-      sees = λ x. refl;
-      bare = λ v. refl;
-      cost = refl;
-    } };
+    ghost is_operand = { λ _. made_by operands.two_indices (λ t. unfold operand in refl)
+        (λ v. refl) };
 
     #[inline(always)]
     fn instruction(self, _: ()) -> Instruction<'a> {
@@ -84,13 +67,8 @@ impl<'a> OperandOf<'a, ()> for MemoryCopy<'a> {
 
     ghost seen = { λ x. operand_in (code.memory_copy x) };
 
-    ghost is_operand = { λ _. record {
-      make = operands.two_indices;
-      reads = λ t. unfold operand in refl;
-      sees = λ x. refl;
-      bare = λ v. refl;
-      cost = refl;
-    } };
+    ghost is_operand = { λ _. made_by operands.two_indices (λ t. unfold operand in refl)
+        (λ v. refl) };
 
     #[inline(always)]
     fn instruction(self, _: ()) -> Instruction<'a> {
@@ -104,13 +82,8 @@ impl<'a> OperandOf<'a, ()> for TableInit<'a> {
 
     ghost seen = { λ x. operand_in (code.table_init x) };
 
-    ghost is_operand = { λ _. record {
-      make = operands.two_indices;
-      reads = λ t. unfold operand in refl;
-      sees = λ x. refl;
-      bare = λ v. refl;
-      cost = refl;
-    } };
+    ghost is_operand = { λ _. made_by operands.two_indices (λ t. unfold operand in refl)
+        (λ v. refl) };
 
     #[inline(always)]
     fn instruction(self, _: ()) -> Instruction<'a> {
@@ -124,13 +97,8 @@ impl<'a> OperandOf<'a, ()> for TableCopy<'a> {
 
     ghost seen = { λ x. operand_in (code.table_copy x) };
 
-    ghost is_operand = { λ _. record {
-      make = operands.two_indices;
-      reads = λ t. unfold operand in refl;
-      sees = λ x. refl;
-      bare = λ v. refl;
-      cost = refl;
-    } };
+    ghost is_operand = { λ _. made_by operands.two_indices (λ t. unfold operand in refl)
+        (λ v. refl) };
 
     #[inline(always)]
     fn instruction(self, _: ()) -> Instruction<'a> {
@@ -144,13 +112,7 @@ impl<'a> OperandOf<'a, ()> for HeapType<'a> {
 
     ghost seen = { λ x. operand_in (code.ref_null x) };
 
-    ghost is_operand = { λ _. record {
-      make = operands.heap;
-      reads = λ t. unfold operand in refl;
-      sees = λ x. refl;
-      bare = λ v. refl;
-      cost = refl;
-    } };
+    ghost is_operand = { λ _. made_by operands.heap (λ t. unfold operand in refl) (λ v. refl) };
 
     #[inline(always)]
     fn instruction(self, _: ()) -> Instruction<'a> {
@@ -164,13 +126,7 @@ impl<'a> OperandOf<'a, ()> for ArrayNewFixed<'a> {
 
     ghost seen = { λ x. operand_in (code.array_new_fixed x) };
 
-    ghost is_operand = { λ _. record {
-      make = operands.sized;
-      reads = λ t. unfold operand in refl;
-      sees = λ x. refl;
-      bare = λ v. refl;
-      cost = refl;
-    } };
+    ghost is_operand = { λ _. made_by operands.sized (λ t. unfold operand in refl) (λ v. refl) };
 
     #[inline(always)]
     fn instruction(self, _: ()) -> Instruction<'a> {
@@ -184,13 +140,8 @@ impl<'a> OperandOf<'a, ()> for ArrayNewData<'a> {
 
     ghost seen = { λ x. operand_in (code.array_new_data x) };
 
-    ghost is_operand = { λ _. record {
-      make = operands.two_indices;
-      reads = λ t. unfold operand in refl;
-      sees = λ x. refl;
-      bare = λ v. refl;
-      cost = refl;
-    } };
+    ghost is_operand = { λ _. made_by operands.two_indices (λ t. unfold operand in refl)
+        (λ v. refl) };
 
     #[inline(always)]
     fn instruction(self, _: ()) -> Instruction<'a> {
@@ -204,13 +155,8 @@ impl<'a> OperandOf<'a, ()> for ArrayNewElem<'a> {
 
     ghost seen = { λ x. operand_in (code.array_new_elem x) };
 
-    ghost is_operand = { λ _. record {
-      make = operands.two_indices;
-      reads = λ t. unfold operand in refl;
-      sees = λ x. refl;
-      bare = λ v. refl;
-      cost = refl;
-    } };
+    ghost is_operand = { λ _. made_by operands.two_indices (λ t. unfold operand in refl)
+        (λ v. refl) };
 
     #[inline(always)]
     fn instruction(self, _: ()) -> Instruction<'a> {
@@ -224,13 +170,8 @@ impl<'a> OperandOf<'a, ()> for ArrayFill<'a> {
 
     ghost seen = { λ x. operand_in (code.array_fill x) };
 
-    ghost is_operand = { λ _. record {
-      make = operands.one_index;
-      reads = λ t. unfold operand in refl;
-      sees = λ x. refl;
-      bare = λ v. refl;
-      cost = refl;
-    } };
+    ghost is_operand = { λ _. made_by operands.one_index (λ t. unfold operand in refl)
+        (λ v. refl) };
 
     #[inline(always)]
     fn instruction(self, _: ()) -> Instruction<'a> {
@@ -244,13 +185,8 @@ impl<'a> OperandOf<'a, ()> for ArrayCopy<'a> {
 
     ghost seen = { λ x. operand_in (code.array_copy x) };
 
-    ghost is_operand = { λ _. record {
-      make = operands.two_indices;
-      reads = λ t. unfold operand in refl;
-      sees = λ x. refl;
-      bare = λ v. refl;
-      cost = refl;
-    } };
+    ghost is_operand = { λ _. made_by operands.two_indices (λ t. unfold operand in refl)
+        (λ v. refl) };
 
     #[inline(always)]
     fn instruction(self, _: ()) -> Instruction<'a> {
@@ -264,13 +200,8 @@ impl<'a> OperandOf<'a, ()> for RefTest<'a> {
 
     ghost seen = { λ x. operand_in (code.ref_test x) };
 
-    ghost is_operand = { λ _. record {
-      make = operands.reference;
-      reads = λ t. unfold operand in refl;
-      sees = λ x. refl;
-      bare = λ v. refl;
-      cost = refl;
-    } };
+    ghost is_operand = { λ _. made_by operands.reference (λ t. unfold operand in refl)
+        (λ v. refl) };
 
     #[inline(always)]
     fn instruction(self, _: ()) -> Instruction<'a> {
@@ -284,13 +215,8 @@ impl<'a> OperandOf<'a, ()> for RefCast<'a> {
 
     ghost seen = { λ x. operand_in (code.ref_cast x) };
 
-    ghost is_operand = { λ _. record {
-      make = operands.reference;
-      reads = λ t. unfold operand in refl;
-      sees = λ x. refl;
-      bare = λ v. refl;
-      cost = refl;
-    } };
+    ghost is_operand = { λ _. made_by operands.reference (λ t. unfold operand in refl)
+        (λ v. refl) };
 
     #[inline(always)]
     fn instruction(self, _: ()) -> Instruction<'a> {
@@ -304,13 +230,7 @@ impl<'a> OperandOf<'a, ()> for Box<BrOnCast<'a>> {
 
     ghost seen = { λ x. operand_in (code.br_on_cast x) };
 
-    ghost is_operand = { λ _. record {
-      make = operands.cast;
-      reads = λ t. unfold operand in refl;
-      sees = λ x. refl;
-      bare = λ v. refl;
-      cost = refl;
-    } };
+    ghost is_operand = { λ _. made_by operands.cast (λ t. unfold operand in refl) (λ v. refl) };
 
     #[inline(always)]
     fn instruction(self, _: ()) -> Instruction<'a> {
@@ -324,13 +244,7 @@ impl<'a> OperandOf<'a, ()> for Box<BrOnCastFail<'a>> {
 
     ghost seen = { λ x. operand_in (code.br_on_cast_fail x) };
 
-    ghost is_operand = { λ _. record {
-      make = operands.cast;
-      reads = λ t. unfold operand in refl;
-      sees = λ x. refl;
-      bare = λ v. refl;
-      cost = refl;
-    } };
+    ghost is_operand = { λ _. made_by operands.cast (λ t. unfold operand in refl) (λ v. refl) };
 
     #[inline(always)]
     fn instruction(self, _: ()) -> Instruction<'a> {
@@ -344,13 +258,7 @@ impl<'a> OperandOf<'a, ()> for i32 {
 
     ghost seen = { λ x. operand_in (code.i32_const x) };
 
-    ghost is_operand = { λ _. record {
-      make = operands.integer;
-      reads = λ t. unfold operand in refl;
-      sees = λ x. refl;
-      bare = λ v. refl;
-      cost = refl;
-    } };
+    ghost is_operand = { λ _. made_by operands.integer (λ t. unfold operand in refl) (λ v. refl) };
 
     #[inline(always)]
     fn instruction(self, _: ()) -> Instruction<'a> {
@@ -364,13 +272,7 @@ impl<'a> OperandOf<'a, ()> for i64 {
 
     ghost seen = { λ x. operand_in (code.i64_const x) };
 
-    ghost is_operand = { λ _. record {
-      make = operands.integer;
-      reads = λ t. unfold operand in refl;
-      sees = λ x. refl;
-      bare = λ v. refl;
-      cost = refl;
-    } };
+    ghost is_operand = { λ _. made_by operands.integer (λ t. unfold operand in refl) (λ v. refl) };
 
     #[inline(always)]
     fn instruction(self, _: ()) -> Instruction<'a> {
@@ -384,13 +286,7 @@ impl<'a> OperandOf<'a, ()> for F32 {
 
     ghost seen = { λ x. operand_in (code.f32_const x) };
 
-    ghost is_operand = { λ _. record {
-      make = operands.float;
-      reads = λ t. unfold operand in refl;
-      sees = λ x. refl;
-      bare = λ v. refl;
-      cost = refl;
-    } };
+    ghost is_operand = { λ _. made_by operands.float (λ t. unfold operand in refl) (λ v. refl) };
 
     #[inline(always)]
     fn instruction(self, _: ()) -> Instruction<'a> {
@@ -404,13 +300,7 @@ impl<'a> OperandOf<'a, ()> for F64 {
 
     ghost seen = { λ x. operand_in (code.f64_const x) };
 
-    ghost is_operand = { λ _. record {
-      make = operands.float;
-      reads = λ t. unfold operand in refl;
-      sees = λ x. refl;
-      bare = λ v. refl;
-      cost = refl;
-    } };
+    ghost is_operand = { λ _. made_by operands.float (λ t. unfold operand in refl) (λ v. refl) };
 
     #[inline(always)]
     fn instruction(self, _: ()) -> Instruction<'a> {
@@ -428,7 +318,7 @@ impl<'a> OperandOf<'a, ()> for Option<Ordering> {
       make = operands.fence;
       reads = λ t. unfold operand in refl;
       sees = λ x. refl;
-      bare = elim [ Some v ↦ refl | None ↦ refl ];
+      heapless = elim [ Some v ↦ refl | None ↦ refl ];
       cost = refl;
     } };
 
@@ -444,13 +334,7 @@ impl<'a> OperandOf<'a, ()> for V128Const {
 
     ghost seen = { λ x. operand_in (code.v128_const x) };
 
-    ghost is_operand = { λ _. record {
-      make = operands.vector;
-      reads = λ t. unfold operand in refl;
-      sees = λ x. refl;
-      bare = λ v. refl;
-      cost = refl;
-    } };
+    ghost is_operand = { λ _. made_by operands.vector (λ t. unfold operand in refl) (λ v. refl) };
 
     #[inline(always)]
     fn instruction(self, _: ()) -> Instruction<'a> {
@@ -464,13 +348,7 @@ impl<'a> OperandOf<'a, ()> for I8x16Shuffle {
 
     ghost seen = { λ x. operand_in (code.i8x16_shuffle x) };
 
-    ghost is_operand = { λ _. record {
-      make = operands.shuffled;
-      reads = λ t. unfold operand in refl;
-      sees = λ x. refl;
-      bare = λ v. refl;
-      cost = refl;
-    } };
+    ghost is_operand = { λ _. made_by operands.shuffled (λ t. unfold operand in refl) (λ v. refl) };
 
     #[inline(always)]
     fn instruction(self, _: ()) -> Instruction<'a> {
@@ -484,13 +362,7 @@ impl<'a> OperandOf<'a, ()> for TryTable<'a> {
 
     ghost seen = { λ x. operand_in (code.try_table x) };
 
-    ghost is_operand = { λ _. record {
-      make = operands.caught;
-      reads = λ t. unfold operand in refl;
-      sees = λ x. refl;
-      bare = λ v. refl;
-      cost = refl;
-    } };
+    ghost is_operand = { λ _. made_by operands.caught (λ t. unfold operand in refl) (λ v. refl) };
 
     #[inline(always)]
     fn instruction(self, _: ()) -> Instruction<'a> {
@@ -504,13 +376,8 @@ impl<'a> OperandOf<'a, ()> for ContBind<'a> {
 
     ghost seen = { λ x. operand_in (code.cont_bind x) };
 
-    ghost is_operand = { λ _. record {
-      make = operands.two_indices;
-      reads = λ t. unfold operand in refl;
-      sees = λ x. refl;
-      bare = λ v. refl;
-      cost = refl;
-    } };
+    ghost is_operand = { λ _. made_by operands.two_indices (λ t. unfold operand in refl)
+        (λ v. refl) };
 
     #[inline(always)]
     fn instruction(self, _: ()) -> Instruction<'a> {
@@ -524,13 +391,7 @@ impl<'a> OperandOf<'a, ()> for Resume<'a> {
 
     ghost seen = { λ x. operand_in (code.resume x) };
 
-    ghost is_operand = { λ _. record {
-      make = operands.resumed;
-      reads = λ t. unfold operand in refl;
-      sees = λ x. refl;
-      bare = λ v. refl;
-      cost = refl;
-    } };
+    ghost is_operand = { λ _. made_by operands.resumed (λ t. unfold operand in refl) (λ v. refl) };
 
     #[inline(always)]
     fn instruction(self, _: ()) -> Instruction<'a> {
@@ -544,13 +405,7 @@ impl<'a> OperandOf<'a, ()> for Box<ResumeThrow<'a>> {
 
     ghost seen = { λ x. operand_in (code.resume_throw x) };
 
-    ghost is_operand = { λ _. record {
-      make = operands.thrown;
-      reads = λ t. unfold operand in refl;
-      sees = λ x. refl;
-      bare = λ v. refl;
-      cost = refl;
-    } };
+    ghost is_operand = { λ _. made_by operands.thrown (λ t. unfold operand in refl) (λ v. refl) };
 
     #[inline(always)]
     fn instruction(self, _: ()) -> Instruction<'a> {
@@ -564,13 +419,7 @@ impl<'a> OperandOf<'a, ()> for ResumeThrowRef<'a> {
 
     ghost seen = { λ x. operand_in (code.resume_throw_ref x) };
 
-    ghost is_operand = { λ _. record {
-      make = operands.resumed;
-      reads = λ t. unfold operand in refl;
-      sees = λ x. refl;
-      bare = λ v. refl;
-      cost = refl;
-    } };
+    ghost is_operand = { λ _. made_by operands.resumed (λ t. unfold operand in refl) (λ v. refl) };
 
     #[inline(always)]
     fn instruction(self, _: ()) -> Instruction<'a> {
@@ -584,13 +433,8 @@ impl<'a> OperandOf<'a, ()> for Switch<'a> {
 
     ghost seen = { λ x. operand_in (code.switch x) };
 
-    ghost is_operand = { λ _. record {
-      make = operands.two_indices;
-      reads = λ t. unfold operand in refl;
-      sees = λ x. refl;
-      bare = λ v. refl;
-      cost = refl;
-    } };
+    ghost is_operand = { λ _. made_by operands.two_indices (λ t. unfold operand in refl)
+        (λ v. refl) };
 
     #[inline(always)]
     fn instruction(self, _: ()) -> Instruction<'a> {
@@ -604,13 +448,8 @@ impl<'a> OperandOf<'a, ()> for RefCastDescEq<'a> {
 
     ghost seen = { λ x. operand_in (code.ref_cast_desc_eq x) };
 
-    ghost is_operand = { λ _. record {
-      make = operands.reference;
-      reads = λ t. unfold operand in refl;
-      sees = λ x. refl;
-      bare = λ v. refl;
-      cost = refl;
-    } };
+    ghost is_operand = { λ _. made_by operands.reference (λ t. unfold operand in refl)
+        (λ v. refl) };
 
     #[inline(always)]
     fn instruction(self, _: ()) -> Instruction<'a> {
@@ -624,13 +463,7 @@ impl<'a> OperandOf<'a, ()> for Box<BrOnCastDescEq<'a>> {
 
     ghost seen = { λ x. operand_in (code.br_on_cast_desc_eq x) };
 
-    ghost is_operand = { λ _. record {
-      make = operands.cast;
-      reads = λ t. unfold operand in refl;
-      sees = λ x. refl;
-      bare = λ v. refl;
-      cost = refl;
-    } };
+    ghost is_operand = { λ _. made_by operands.cast (λ t. unfold operand in refl) (λ v. refl) };
 
     #[inline(always)]
     fn instruction(self, _: ()) -> Instruction<'a> {
@@ -644,13 +477,7 @@ impl<'a> OperandOf<'a, ()> for Box<BrOnCastDescEqFail<'a>> {
 
     ghost seen = { λ x. operand_in (code.br_on_cast_desc_eq_fail x) };
 
-    ghost is_operand = { λ _. record {
-      make = operands.cast;
-      reads = λ t. unfold operand in refl;
-      sees = λ x. refl;
-      bare = λ v. refl;
-      cost = refl;
-    } };
+    ghost is_operand = { λ _. made_by operands.cast (λ t. unfold operand in refl) (λ v. refl) };
 
     #[inline(always)]
     fn instruction(self, _: ()) -> Instruction<'a> {

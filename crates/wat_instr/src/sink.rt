@@ -1,8 +1,7 @@
 //! Destinations of parsed instructions.
 
 ghost use Rattle.std.specs.Prelude.{◌≡◌, ◌<◌, ◌++◌, ◌∷◌, [], List, None, map};
-ghost use Rattle.std.specs.Vec.{vec_len, vec_capacity};
-ghost use Rattle.wat_instr.specs.Instruction.{Instr, instruction_view};
+ghost use Rattle.wat_instr.specs.Prelude.{vec_len, vec_capacity, InstructionModel, instruction_view};
 ghost use Rattle.wat_instr.specs.Reading.{in_slot};
 
 use crate::instruction::Instruction;
@@ -12,7 +11,7 @@ use crate::instruction::Instruction;
 /// [`put`](Sink::put) doesn't allocate: the caller makes room first.
 pub trait Sink<'a> {
     /// The instructions in the destination, in order.
-    ghost seen: { Self → List Instr };
+    ghost seen: { Self → List InstructionModel };
 
     /// The destination has room for one more instruction.
     ghost has_room: { Self → Type 0 };

@@ -1,22 +1,15 @@
 -- The ends of groups, found from the right, and the skips of hidden groups.
-use Rattle.std.specs.Cmp.{first_so}
-use Rattle.std.proofs.Common.{◌≡◌, ℕ, zero, suc, ◌+◌, ◌-◌, ◌<◌, ◌≤◌, List, [], ◌∷◌, ◌++◌, length, drop, get_or, refl, ap, sym, ◌∙◌, arith, add-one, append-nil, length-drop}
-use Rattle.std.specs.Prelude.{Bool, true, false, if◌then◌else◌, Option, Some, None, slice_get, IsSome, MatchOption, ◌↔◌, option_to_list, reverse, ◌&&◌, not}
-use Rattle.std.proofs.lemmas.List.{reverse-append, drop-map, length-map, drop_more, drop-set-add}
+use Rattle.std.proofs.Common.{option_to_list, ◌≡◌, ℕ, zero, suc, ◌+◌, ◌-◌, ◌<◌, ◌≤◌, List, [], ◌∷◌, ◌++◌, length, drop, get_or, refl, ap, sym, ◌∙◌, arith, add-one, append-nil, length-drop, Bool, true, false, if◌then◌else◌, Option, Some, None, slice_get, IsSome, MatchOption, ◌↔◌, reverse, ◌&&◌, not}
+use Rattle.std.proofs.lemmas.List.{reverse-append, drop-set-add}
 use Rattle.std.proofs.lemmas.Option.{slice_get-get_or, slice_get-map}
-use Rattle.std.proofs.Math.ListN.{set, drop_of_length-le}
 use Rattle.std.proofs.Math.Seq.{map-set_same}
-use Rattle.wat_lexer.specs.Token.{Entry, Tok, LParen, RParen, Keyword, Id, Annotation, Integer, String, Reserved, Placed, tokens_of, is_open, is_close, is_annotation}
-use Rattle.wat_lexer.specs.declared.lexeme.Skips.{Skips}
-use Rattle.wat_lexer.specs.Sight.{begins_hidden_group, begins_annotation_group, is_standard, annotation_name, shuts, deeper, behind_group, hidden_count_at, hidden_count}
-use Rattle.wat_lexer.specs.Cut.{Unclosed, Closed, FirstUnclosed}
-use Rattle.wat_lexer.specs.View.{entry_tok, toks, placed_of, placed, skip_in_front, skip, skipping, no_entry, AreSkips}
+use Rattle.wat_lexer.specs.Laws.Prelude.{first_so, drop-map, length-map, drop_more, set, drop_of_length-le, Entry, Token, LParen, RParen, Keyword, Id, Annotation, Integer, String, Reserved, Placed, tokens_of, is_open, is_close, is_annotation, begins_hidden_group, begins_annotation_group, is_standard, annotation_name, shuts, deeper, behind_group, hidden_count_at, hidden_count, Unclosed, Closed, FirstUnclosed, entry_tok, entry_tokens, placed_of, placed, skip_in_front, skip, skipping, no_entry, AreSkips, open_is, close_is, tokens_of-placed, begins_hidden_is}
 use Rattle.wat_lexer.specs.Laws.Hidden.{begins_hidden_not_open}
-use Rattle.wat_lexer.specs.Laws.Kinds.{open_is, close_is, tokens_of-placed}
+use Rattle.wat_lexer.specs.declared.lexeme.Skips.{Skips}
 use Rattle.wat_lexer.proofs.Skips.{skips_later}
 
 -- if only skips were stored, the tokens are the same
-toks_at : (ls before : List Entry) (i : ℕ) → placed ls ≡ placed before → toks (drop i ls) ≡ drop i (tokens_of (placed before))
+toks_at : (ls before : List Entry) (i : ℕ) → placed ls ≡ placed before → entry_tokens (drop i ls) ≡ drop i (tokens_of (placed before))
 toks_at ls before i e = rw (← e, tokens_of-placed ls, drop-map entry_tok i ls)
 
 pub placed_length : (ls before : List Entry) → placed ls ≡ placed before → length ls ≡ length before
@@ -25,51 +18,44 @@ placed_length ls before e = omega (arith, ap length e, length-map ls placed_of, 
 -- GROUPS
 
 -- the tokens after a group, or no tokens if the group isn't closed
-abbrev pub left : Option (List Tok) → List Tok
+abbrev pub left : Option (List Token) → List Token
 left None = []
 left (Some q) = q
 
 -- the number of hidden tokens of an annotation group, from a place within the group on
-hidden_count_within : (known : Bool) (r : List Tok) (depth : ℕ) → hidden_count_at known (Some depth) r + length (left (behind_group depth r)) ≡ length r + hidden_count known (left (behind_group depth r))
+hidden_count_within : (known : Bool) (r : List Token) (depth : ℕ) → hidden_count_at known (Some depth) r + length (left (behind_group depth r)) ≡ length r + hidden_count known (left (behind_group depth r))
 unfolding behind_group hidden_count_at hidden_count
 hidden_count_within known [] depth = refl
 hidden_count_within known (x ∷ r) depth = grind (arith, hidden_count_within known r (deeper x depth))
 
-group_counts : (known : Bool) (ts : List Tok) (i end : ℕ) (x : Tok) → i < end → end ≤ length ts → drop i ts ≡ x ∷ drop (i + 1) ts → left (behind_group 0 (drop (i + 1) ts)) ≡ drop end ts → begins_hidden_group known (drop i ts) ≡ true → hidden_count known (drop i ts) ≡ (end - i) + hidden_count known (drop end ts)
+group_counts : (known : Bool) (ts : List Token) (i end : ℕ) (x : Token) → i < end → end ≤ length ts → drop i ts ≡ x ∷ drop (i + 1) ts → left (behind_group 0 (drop (i + 1) ts)) ≡ drop end ts → begins_hidden_group known (drop i ts) ≡ true → hidden_count known (drop i ts) ≡ (end - i) + hidden_count known (drop end ts)
 unfolding hidden_count hidden_count_at
 group_counts known ts i end x lt le front e h = rw (front, rw front at h) (omega (arith, rw e at (hidden_count_within known (drop (i + 1) ts) 0), length-drop (i + 1) ts, length-drop end ts))
 
 -- SKIPS
 
 -- a group that is hidden if the five names are known is also hidden if no name is known
-hidden_anyway : (known : Bool) (t : List Tok) → begins_hidden_group known t ≡ true → begins_hidden_group false t ≡ true
+hidden_anyway : (known : Bool) (t : List Token) → begins_hidden_group known t ≡ true → begins_hidden_group false t ≡ true
 hidden_anyway known t h = rw (first_so (begins_annotation_group t) (not (known && is_standard (annotation_name t))) h)
 
-begins_hidden_is : (t : List Tok) → begins_hidden_group false t ≡ true → (n : List ℕ) × (r : List Tok) × (t ≡ LParen ∷ (Annotation n ∷ r))
-begins_hidden_is [] h = cc
-begins_hidden_is (LParen ∷ Annotation n ∷ r) h = (n, r, refl)
-begins_hidden_is (LParen ∷ []) h = cc
-begins_hidden_is (LParen ∷ _ ∷ r) h = cc
-begins_hidden_is (_ ∷ r) h = cc
-
 -- skips are right from a place on, if they are right at the place and after it
-skips_cons : (x : Entry) (ls : List Entry) → AreSkips ls → ((known : Bool) → begins_hidden_group known (toks (x ∷ ls)) ≡ true → skip_in_front known (x ∷ ls) ≡ hidden_count known (toks (x ∷ ls))) → AreSkips (x ∷ ls)
+skips_cons : (x : Entry) (ls : List Entry) → AreSkips ls → ((known : Bool) → begins_hidden_group known (entry_tokens (x ∷ ls)) ≡ true → skip_in_front known (x ∷ ls) ≡ hidden_count known (entry_tokens (x ∷ ls))) → AreSkips (x ∷ ls)
 skips_cons x ls behind here known zero = here known
 skips_cons x ls behind here known (suc j) = behind known j
 
 -- if no hidden group is at a place, no skip is needed there
-skips_past : (x : Entry) (ls : List Entry) → AreSkips ls → begins_hidden_group false (toks (x ∷ ls)) ≡ false → AreSkips (x ∷ ls)
-skips_past x ls behind none = skips_cons x ls behind (λ known h. let f = hidden_anyway known (toks (x ∷ ls)) h in cc)
+skips_past : (x : Entry) (ls : List Entry) → AreSkips ls → begins_hidden_group false (entry_tokens (x ∷ ls)) ≡ false → AreSkips (x ∷ ls)
+skips_past x ls behind none = skips_cons x ls behind (λ known h. let f = hidden_anyway known (entry_tokens (x ∷ ls)) h in cc)
 
 -- no hidden group begins at the second token of an annotation group
-second : (a b : Tok) (r : List Tok) → begins_hidden_group false (a ∷ b ∷ r) ≡ true → begins_hidden_group false (b ∷ r) ≡ false
+second : (a b : Token) (r : List Token) → begins_hidden_group false (a ∷ b ∷ r) ≡ true → begins_hidden_group false (b ∷ r) ≡ false
 second LParen (Annotation n) r h = refl
 second LParen _ r h = cc
 second _ b r h = cc
 
 -- the skip that was stored with a group's annotation is right
-told : (x y : Entry) (ls : List Entry) → AreSkips ls → begins_hidden_group false (toks (x ∷ y ∷ ls)) ≡ true → ((known : Bool) → begins_hidden_group known (toks (x ∷ y ∷ ls)) ≡ true → skip known y.skips ≡ hidden_count known (toks (x ∷ y ∷ ls))) → AreSkips (x ∷ y ∷ ls)
-told x y ls behind begins right = skips_cons x (y ∷ ls) (skips_past y ls behind (second (entry_tok x) (entry_tok y) (toks ls) begins)) right
+told : (x y : Entry) (ls : List Entry) → AreSkips ls → begins_hidden_group false (entry_tokens (x ∷ y ∷ ls)) ≡ true → ((known : Bool) → begins_hidden_group known (entry_tokens (x ∷ y ∷ ls)) ≡ true → skip known y.skips ≡ hidden_count known (entry_tokens (x ∷ y ∷ ls))) → AreSkips (x ∷ y ∷ ls)
+told x y ls behind begins right = skips_cons x (y ∷ ls) (skips_past y ls behind (second (entry_tok x) (entry_tok y) (entry_tokens ls) begins)) right
 
 -- the list with other skips at a place
 abbrev pub marked : List Entry → ℕ → Skips → List Entry
@@ -79,22 +65,22 @@ pub marked_same : (ls : List Entry) (i : ℕ) (skips : Skips) → placed (marked
 marked_same ls i skips = map-set_same placed_of ls i (skipping ls i skips) no_entry refl
 
 -- the second token of an annotation's group is the annotation
-annotates : (a b : Tok) (r : List Tok) → begins_hidden_group false (a ∷ b ∷ r) ≡ true → is_annotation b ≡ true
+annotates : (a b : Token) (r : List Token) → begins_hidden_group false (a ∷ b ∷ r) ≡ true → is_annotation b ≡ true
 annotates LParen (Annotation n) r h = refl
 annotates LParen _ r h = cc
 annotates _ b r h = cc
 
-pub second_within : (ls : List Entry) (at : ℕ) → begins_hidden_group false (toks (drop at ls)) ≡ true → at + 1 < length ls
+pub second_within : (ls : List Entry) (at : ℕ) → begins_hidden_group false (entry_tokens (drop at ls)) ≡ true → at + 1 < length ls
 second_within ls at begins =
-    let (n, r, is) = begins_hidden_is (toks (drop at ls)) begins in
+    let (n, r, is) = begins_hidden_is (entry_tokens (drop at ls)) begins in
     omega (arith, ap length is, length-map (drop at ls) entry_tok, length-drop at ls)
 
-pub second_annotates : (ls : List Entry) (at : ℕ) → begins_hidden_group false (toks (drop at ls)) ≡ true → is_annotation ((get_or ls (at + 1) no_entry).token) ≡ true
+pub second_annotates : (ls : List Entry) (at : ℕ) → begins_hidden_group false (entry_tokens (drop at ls)) ≡ true → is_annotation ((get_or ls (at + 1) no_entry).token) ≡ true
 second_annotates ls at begins =
     let lt = second_within ls at begins in
-    annotates (entry_tok (get_or ls at no_entry)) (entry_tok (get_or ls (at + 1) no_entry)) (toks (drop (at + 1 + 1) ls)) (rw (drop_more ls at no_entry (omega arith), drop_more ls (at + 1) no_entry lt) at begins)
+    annotates (entry_tok (get_or ls at no_entry)) (entry_tok (get_or ls (at + 1) no_entry)) (entry_tokens (drop (at + 1 + 1) ls)) (rw (drop_more ls at no_entry (omega arith), drop_more ls (at + 1) no_entry lt) at begins)
 
-pub marked_skips : (ls : List Entry) (at : ℕ) (skips : Skips) → begins_hidden_group false (toks (drop at ls)) ≡ true → AreSkips (drop (at + 1) ls) → ((known : Bool) → begins_hidden_group known (toks (drop at ls)) ≡ true → skip known skips ≡ hidden_count known (toks (drop at ls)))
+pub marked_skips : (ls : List Entry) (at : ℕ) (skips : Skips) → begins_hidden_group false (entry_tokens (drop at ls)) ≡ true → AreSkips (drop (at + 1) ls) → ((known : Bool) → begins_hidden_group known (entry_tokens (drop at ls)) ≡ true → skip known skips ≡ hidden_count known (entry_tokens (drop at ls)))
     → AreSkips (drop at (marked ls (at + 1) skips))
 marked_skips ls at skips begins behind right =
     let lt = second_within ls at begins in
@@ -103,8 +89,8 @@ marked_skips ls at skips begins behind right =
     let next : at + 1 + 1 ≡ at + 2 = omega arith in
     let new : drop at (marked ls (at + 1) skips) ≡ x ∷ y ∷ drop (at + 2) ls =
     rw (drop-set-add at ls 1 y, drop_more ls at no_entry (omega arith), drop_more ls (at + 1) no_entry lt, next) in
-    let same : toks (x ∷ y ∷ drop (at + 2) ls) ≡ toks (drop at ls) =
-    ap toks (sym new) ∙ toks_at (marked ls (at + 1) skips) ls at (marked_same ls (at + 1) skips) ∙ sym (toks_at ls ls at refl) in
+    let same : entry_tokens (x ∷ y ∷ drop (at + 2) ls) ≡ entry_tokens (drop at ls) =
+    ap entry_tokens (sym new) ∙ toks_at (marked ls (at + 1) skips) ls at (marked_same ls (at + 1) skips) ∙ sym (toks_at ls ls at refl) in
     rw new (told x y (drop (at + 2) ls) (skips_later ls (at + 1) (at + 2) (omega arith) behind) (ap (begins_hidden_group false) same ∙ begins) (λ known h. right known (ap (begins_hidden_group known) (sym same) ∙ h) ∙ ap (hidden_count known) (sym same)))
 
 -- THE PASS FROM THE RIGHT
@@ -156,11 +142,11 @@ group_nil : (k : ℕ) → behind_group k [] ≡ None
 unfolding behind_group
 group_nil k = refl
 
-group_cons : (k : ℕ) (x : Tok) (r : List Tok) → behind_group k (x ∷ r) ≡ (if shuts x k then Some r else behind_group (deeper x k) r)
+group_cons : (k : ℕ) (x : Token) (r : List Token) → behind_group k (x ∷ r) ≡ (if shuts x k then Some r else behind_group (deeper x k) r)
 unfolding behind_group
 group_cons k x r = refl
 
-group_other : (k : ℕ) (t : Tok) (ts : List Tok) → is_open t ≡ false → is_close t ≡ false → behind_group k (t ∷ ts) ≡ behind_group k ts
+group_other : (k : ℕ) (t : Token) (ts : List Token) → is_open t ≡ false → is_close t ≡ false → behind_group k (t ∷ ts) ≡ behind_group k ts
 unfolding behind_group
 group_other k LParen ts h e = cc
 group_other k RParen ts h e = cc
@@ -172,7 +158,7 @@ group_other k (String n) ts h e = refl
 group_other k (Reserved n) ts h e = refl
 
 -- if no hidden group is at the index, no group that isn't closed is there
-not_unclosed : (ts : List Tok) (i : ℕ) → begins_hidden_group false (drop i ts) ≡ false → Unclosed ts i → ⊥
+not_unclosed : (ts : List Token) (i : ℕ) → begins_hidden_group false (drop i ts) ≡ false → Unclosed ts i → ⊥
 not_unclosed ts i none (n, r, e, k) = absurd (let f : true ≡ false = ap (begins_hidden_group false) (sym e) ∙ none in cc)
 
 -- at the place, or after it
@@ -186,7 +172,7 @@ first_passed ps i (Some offset) closed (j, t, le, here, at, u, before) =
 
 pub nothing_yet : (ls : List Entry) → SkipsSoFar ls (length ls) ls [] None
 nothing_yet ls =
-    let over : (j : ℕ) → length ls ≤ j → drop j (tokens_of (placed ls)) ≡ [] = λ j le. rw (tokens_of-placed ls) (drop_of_length-le (toks ls) (omega (arith, length-map ls entry_tok))) in
+    let over : (j : ℕ) → length ls ≤ j → drop j (tokens_of (placed ls)) ≡ [] = λ j le. rw (tokens_of-placed ls) (drop_of_length-le (entry_tokens ls) (omega (arith, length-map ls entry_tok))) in
     let none : drop (length ls) ls ≡ [] = drop_of_length-le ls (omega arith) in record {
       same = refl;
       within = omega arith;
@@ -197,10 +183,10 @@ nothing_yet ls =
 
 -- the place before those that were passed
 module _ {before ls : List Entry} {j : ℕ} {stack : List ℕ} {first : Option ℕ} (i : ℕ) (so : SkipsSoFar before j ls stack first) (back : j ≡ i + 1) where
-  abbrev ts : List Tok
+  abbrev ts : List Token
   ts = tokens_of (placed before)
 
-  abbrev tok : Tok
+  abbrev tok : Token
   tok = entry_tok (get_or ls i no_entry)
 
   now : SkipsSoFar before (i + 1) ls stack first
@@ -240,7 +226,7 @@ module _ {before ls : List Entry} {j : ℕ} {stack : List ℕ} {first : Option �
     behind : ClosesAt before (i + 1) 0 end
     behind = rw pop.top at (now.tops 0)
 
-    counts : (e : ℕ) → i < e → e ≤ length ls → left (behind_group 0 (drop (i + 1) ts)) ≡ drop e ts → (known : Bool) → begins_hidden_group known (toks (drop i ls)) ≡ true → hidden_count known (toks (drop i ls)) ≡ (e - i) + hidden_count known (toks (drop e ls))
+    counts : (e : ℕ) → i < e → e ≤ length ls → left (behind_group 0 (drop (i + 1) ts)) ≡ drop e ts → (known : Bool) → begins_hidden_group known (entry_tokens (drop i ls)) ≡ true → hidden_count known (entry_tokens (drop i ls)) ≡ (e - i) + hidden_count known (entry_tokens (drop e ls))
     counts e low high there known =
         rw (toks_at ls before i so.same, toks_at ls before e so.same) (group_counts known ts i e tok low (omega (arith, within, length-map before placed_of, length-map (placed before) (λ (p : Placed). p.token))) front there)
 
@@ -253,28 +239,28 @@ module _ {before ls : List Entry} {j : ℕ} {stack : List ℕ} {first : Option �
       unclosed = unclosed;
     }
 
-    pub opened : is_open tok ≡ true → begins_hidden_group false (toks (drop i ls)) ≡ false → SkipsSoFar before i ls rest first
+    pub opened : is_open tok ≡ true → begins_hidden_group false (entry_tokens (drop i ls)) ≡ false → SkipsSoFar before i ls rest first
     opened opens none = let kept = stays (rw (toks_at ls before i so.same) at none) in opening ls opens refl kept.0 kept.1
 
-  pub ends_here : {rest : List ℕ} {end : ℕ} → Popped stack rest (Some end) → (i < end) × (end ≤ length ls) × ((known : Bool) → begins_hidden_group known (toks (drop i ls)) ≡ true → hidden_count known (toks (drop i ls)) ≡ (end - i) + hidden_count known (toks (drop end ls)))
+  pub ends_here : {rest : List ℕ} {end : ℕ} → Popped stack rest (Some end) → (i < end) × (end ≤ length ls) × ((known : Bool) → begins_hidden_group known (entry_tokens (drop i ls)) ≡ true → hidden_count known (entry_tokens (drop i ls)) ≡ (end - i) + hidden_count known (entry_tokens (drop end ls)))
   ends_here {end = end} pop =
       let (there, low, high) = behind pop in
       (omega arith, omega (arith, within), counts pop end (omega arith) (omega (arith, within)) (rw there))
 
-  pub ends_never : {rest : List ℕ} → Popped stack rest None → (known : Bool) → begins_hidden_group known (toks (drop i ls)) ≡ true → hidden_count known (toks (drop i ls)) ≡ (length ls - i) + hidden_count known (toks (drop (length ls) ls))
+  pub ends_never : {rest : List ℕ} → Popped stack rest None → (known : Bool) → begins_hidden_group known (entry_tokens (drop i ls)) ≡ true → hidden_count known (entry_tokens (drop i ls)) ≡ (length ls - i) + hidden_count known (entry_tokens (drop (length ls) ls))
   ends_never pop =
       let none : drop (length ls) ls ≡ [] = drop_of_length-le ls (omega arith) in
       counts pop (length ls) within.0 (omega arith) (rw (behind pop, ← toks_at ls before (length ls) so.same, none))
 
   -- the tokens after the `(` of a group with an annotation
-  behind_name : (n : List ℕ) (r : List Tok) → drop i ts ≡ LParen ∷ (Annotation n ∷ r) → behind_group 0 (drop (i + 1) ts) ≡ behind_group 0 r
+  behind_name : (n : List ℕ) (r : List Token) → drop i ts ≡ LParen ∷ (Annotation n ∷ r) → behind_group 0 (drop (i + 1) ts) ≡ behind_group 0 r
   unfolding behind_group
   behind_name n r e = let tail : drop (i + 1) ts ≡ Annotation n ∷ r = cc front in rw tail
 
   pub hid_closed : {rest : List ℕ} {end : ℕ} (new : List Entry) → Popped stack rest (Some end) → is_open tok ≡ true → placed new ≡ placed ls → AreSkips (drop i new) → SkipsSoFar before i new rest first
   hid_closed new pop opens same skips = opening pop new opens same skips (first_passed (placed before) i first (λ (n, r, e, none). let f = sym (behind pop).0 ∙ behind_name n r e ∙ none in cc) now.unclosed)
 
-  pub hid_open : {rest : List ℕ} (new : List Entry) → Popped stack rest None → is_open tok ≡ true → begins_hidden_group false (toks (drop i ls)) ≡ true → placed new ≡ placed ls → AreSkips (drop i new) → SkipsSoFar before i new rest (Some ((get_or ls i no_entry).offset))
+  pub hid_open : {rest : List ℕ} (new : List Entry) → Popped stack rest None → is_open tok ≡ true → begins_hidden_group false (entry_tokens (drop i ls)) ≡ true → placed new ≡ placed ls → AreSkips (drop i new) → SkipsSoFar before i new rest (Some ((get_or ls i no_entry).offset))
   hid_open new pop opens begins same skips =
       let (n, r, e) = begins_hidden_is (drop i ts) (rw (toks_at ls before i so.same) at begins) in
       opening pop new opens same skips (i, placed_of (get_or ls i no_entry), omega arith, rw (← so.same, slice_get-map placed_of ls i, slice_get-get_or ls i no_entry within.0), refl, (n, r, e, sym (behind_name n r e) ∙ behind pop), λ k from less v. absurd (omega arith))

@@ -1,27 +1,15 @@
 -- Common tokens, by their first byte and the end of their bytes.
-use Rattle.std.proofs.Common.{◌≡◌, ℕ, zero, suc, ◌+◌, ◌-◌, ◌*◌, ◌<◌, ◌≤◌, List, [], ◌∷◌, length, drop, get_or, refl, ap, sym, ◌∙◌, arith, inl, inr, append-nil, length-take, length-drop}
-use Rattle.std.specs.Prelude.{Bool, true, false, ◌⊎◌, slice_range, ◌==◌, not, Some, is_some, nat_lt, IsTrue}
-use Rattle.std.proofs.Math.ListN.{drop_of_length-le}
-use Rattle.std.proofs.lemmas.Bool.{eqb-true}
-use Rattle.std.specs.Char.{digit_value}
-use Rattle.std.proofs.Math.Bool.{and-false}
-use Rattle.std.proofs.lemmas.Bool.{cases_lt}
-use Rattle.std.proofs.lemmas.Bool.Decides.{nat_tests}
-use Rattle.wat_lexer.specs.Bytes.{is_idchar, between}
-use Rattle.wat_lexer.specs.Cut.{begins, in_no_run, is_hex}
-use Rattle.wat_lexer.specs.Number.{read, begins_hex, is_integer}
-use Rattle.wat_lexer.specs.Token.{Keyword, Id, Integer, Placed}
-use Rattle.wat_lexer.specs.Scan.{all_idchars, class, string_at, with_front, rest_at, behind_run, front, run_front, TokenTo, Between, Ends, Raw}
+use Rattle.std.proofs.Common.{◌≡◌, ℕ, zero, suc, ◌+◌, ◌-◌, ◌*◌, ◌<◌, ◌≤◌, List, [], ◌∷◌, length, drop, get_or, refl, ap, sym, ◌∙◌, arith, inl, inr, append-nil, length-take, length-drop, Bool, true, false, ◌⊎◌, slice_range, ◌==◌, not, Some, is_some, nat_lt, IsTrue}
+use Rattle.wat_lexer.specs.Laws.Prelude.{drop_of_length-le, eqb-true, digit_value, and-false, cases_lt, nat_tests, is_idchar, between, begins, in_no_run, is_hex, read, begins_hex, is_integer, Keyword, Id, Integer, Placed, all_idchars, class, string_at, with_front, rest_at, behind_run, front, run_front, TokenTo, Between, Ends, Raw, class_complete, ends_here, at_front}
+use Rattle.wat_lexer.specs.Laws.Classes.{idchars_sound}
 use Rattle.wat_lexer.specs.View.{PieceIs}
-use Rattle.wat_lexer.specs.declared.lexeme.Kind.TheVariants as kinds
-use Rattle.wat_lexer.specs.Laws.Classes.{idchars_sound, class_complete}
 use Rattle.wat_lexer.specs.Laws.Fronts.{in_run_front}
-use Rattle.wat_lexer.specs.Laws.Pieces.{ends_here}
-use Rattle.wat_lexer.proofs.Places.{front_step, run_token}
+use Rattle.wat_lexer.proofs.FrontAt.{front_step, run_token}
 use Rattle.wat_lexer.proofs.Plain.{slice_front, all_tail}
-use Rattle.wat_lexer.proofs.Steps.{at_front, run_over, run_quote, slice_none, string_step}
+use Rattle.wat_lexer.proofs.Steps.{run_over, run_quote, slice_none, string_step}
 use Rattle.wat_lexer.proofs.Tables.{Below, below_none, below_more, below_joined}
 use Rattle.wat_lexer.proofs.Whole.{class_string}
+use Rattle.wat_lexer.specs.declared.lexeme.Kind.TheVariants as kinds
 
 -- THE END OF A RUN
 

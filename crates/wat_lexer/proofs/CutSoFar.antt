@@ -1,21 +1,12 @@
 -- The invariant of the cut: the tokens so far, and the cuts of the rest.
-use Rattle.std.proofs.Common.{◌≡◌, ℕ, suc, ◌-◌, ◌<◌, ◌≤◌, List, [], ◌∷◌, ◌++◌, length, drop, refl, ap, subst, ◌∙◌, arith, sym, inl, inr, append_assoc, append-nil, length-drop}
-use Rattle.std.specs.Prelude.{Bool, true, false, ◌||◌, ◌&&◌, ◌==◌, nat_lt, if◌then◌else◌}
-use Rattle.std.proofs.lemmas.Bool.{cases_Bool}
-use Rattle.std.proofs.lemmas.List.{map-append}
-use Rattle.std.proofs.lemmas.Bool.Decides.{nat_tests}
-use Rattle.std.proofs.Math.Bool.{and-true, and-false}
-use Rattle.wat_lexer.specs.Place.{offset_of}
-use Rattle.wat_lexer.specs.Token.{Entry, Tok, Placed, is_open, is_annotation, has_annotation}
-use Rattle.wat_lexer.specs.Cut.{Cuts, done, Fails}
-use Rattle.wat_lexer.specs.Bytes.{is_space}
-use Rattle.wat_lexer.specs.Scan.{BlankTo, TokenTo, front, behind_spaces}
-use Rattle.wat_lexer.specs.View.{entry_tok, toks, IfFault, WrongIs, FailsAt}
+use Rattle.std.proofs.Common.{◌≡◌, ℕ, suc, ◌-◌, ◌<◌, ◌≤◌, List, [], ◌∷◌, ◌++◌, length, drop, refl, ap, subst, ◌∙◌, arith, sym, inl, inr, append_assoc, append-nil, length-drop, Bool, true, false, ◌||◌, ◌&&◌, ◌==◌, nat_lt, if◌then◌else◌}
+use Rattle.std.proofs.Math.Bool.{and-true}
+use Rattle.wat_lexer.specs.Laws.Prelude.{cases_Bool, map-append, nat_tests, and-false, offset_of, Entry, Token, Placed, is_open, is_annotation, has_annotation, Cuts, done, Fails, is_space, BlankTo, TokenTo, front, behind_spaces, entry_tok, entry_tokens, IfFault, FailsAt, front_cut, front_fails, if_either}
+use Rattle.wat_lexer.specs.View.{WrongIs}
+use Rattle.wat_lexer.specs.Laws.Fronts.{cut_front}
 use Rattle.wat_lexer.specs.declared.fault.Error.{Error}
 use Rattle.wat_lexer.specs.declared.fault.Fault.{Fault}
 use Rattle.wat_lexer.proofs.Entries.{has_more}
-use Rattle.wat_lexer.specs.Laws.Strings.{if_either}
-use Rattle.wat_lexer.specs.Laws.Fronts.{cut_front, front_cut, front_fails}
 
 -- the text's cuts are the tokens so far with the cuts of the rest; if the rest fails, the text
 -- fails
@@ -73,7 +64,7 @@ pub over_piece : {text : List ℕ} {ts : List Placed} (opens : Bool) (opened at 
 over_piece {text} {ts} opens opened at end next far order spaces within e so =
     subst (λ b. CutSoFar text ts b (drop next text)) (opened_next opens opened at end next far order spaces) (over_spaces end next spaces within e so)
 
-pub over_token : {text rest next : List ℕ} {ts : List Placed} {t : Tok} (offset : ℕ) {behind : Bool} → CutSoFar text ts behind rest → front behind rest ≡ TokenTo t next → offset ≡ length text - length rest → CutSoFar text (ts ++ record { token = t; offset = offset } ∷ []) (is_open t) next
+pub over_token : {text rest next : List ℕ} {ts : List Placed} {t : Token} (offset : ℕ) {behind : Bool} → CutSoFar text ts behind rest → front behind rest ≡ TokenTo t next → offset ≡ length text - length rest → CutSoFar text (ts ++ record { token = t; offset = offset } ∷ []) (is_open t) next
 over_token {text} {rest} {next} {ts} {t} offset so e place = record {
   sound = λ us c. rw append_assoc (so.sound (record { token = t; offset = offset } ∷ us) (front_cut (rw (e, place) (us, refl, c))));
   complete = λ vs c. let (us, m, d) = so.complete vs c in let (ws, n, k) = rw e at (cut_front d) in (ws, m ∙ ap (λ l. ts ++ l) n ∙ rw (place, append_assoc), k);
@@ -90,5 +81,5 @@ fault_here text at ts behind e so h = λ no_memory.
     let o = offset_of e.span in
     (drop o text, so.fails e.fault (drop o text) (front_fails (rw wrong (refl, refl))), omega (arith, length-drop o text))
 
-pub noted_more : (ls : List Entry) (x : Entry) (noted more : Bool) → noted ≡ has_annotation (toks ls) → more ≡ (noted || is_annotation (entry_tok x)) → more ≡ has_annotation (toks (ls ++ x ∷ []))
-noted_more ls x noted more e f = rw (f, e, map-append entry_tok ls (x ∷ []), has_more (toks ls) (entry_tok x))
+pub noted_more : (ls : List Entry) (x : Entry) (noted more : Bool) → noted ≡ has_annotation (entry_tokens ls) → more ≡ (noted || is_annotation (entry_tok x)) → more ≡ has_annotation (entry_tokens (ls ++ x ∷ []))
+noted_more ls x noted more e f = rw (f, e, map-append entry_tok ls (x ∷ []), has_more (entry_tokens ls) (entry_tok x))

@@ -1,19 +1,14 @@
 -- Stored tokens, as lookups see them.
-use Rattle.std.proofs.Common.{◌≡◌, ℕ, zero, suc, ◌+◌, ◌<◌, ◌≤◌, List, [], ◌∷◌, ◌++◌, length, refl, ap, sym, subst, ◌∙◌, append-nil, ◌-◌, arith, drop}
-use Rattle.std.specs.Prelude.{◌≢◌, Bool, true, false, ◌||◌}
-use Rattle.std.specs.List.{AllByRecursion}
+use Rattle.std.proofs.Common.{◌≡◌, ℕ, zero, suc, ◌+◌, ◌<◌, ◌≤◌, List, [], ◌∷◌, ◌++◌, length, refl, ap, sym, subst, ◌∙◌, append-nil, ◌-◌, arith, drop, ◌≢◌, Bool, true, false, ◌||◌}
 use Rattle.std.proofs.Math.Bool.{or_assoc, or-false, or-true}
-use Rattle.std.proofs.Math.ListN.{get_or, set, drop_of_length-le}
-use Rattle.std.proofs.Math.Seq.{get_or-append_seam}
-use Rattle.std.proofs.lemmas.List.{get_or-map, map-append, length-append, get_or_append_left, get_or_default, get_or-set_same, get_or-set_other}
-use Rattle.wat_lexer.specs.Token.{Entry, Placed, Tok, Annotation, is_annotation, has_annotation}
-use Rattle.std.proofs.lemmas.List.{drop_more}
+use Rattle.std.proofs.lemmas.List.{get_or_append_left, get_or_default, get_or-set_same}
 use Rattle.std.proofs.lemmas.List.Elements.{All-get_or, All-from_recursion}
-use Rattle.wat_lexer.specs.View.{is_paren, lying, is_annotation_kind, is_word, HasSkips, no_side_entry, lies_from, stands_at, skips_of, no_skips, lying_skips, number_of, wide, own_number, Apart, AllApart, tok_at, Readable, lies, last_in_side_table, CanBeRead, AllCanBeRead, WasKept, PutInSideTable, FoundFits, found_tok, entry_of, entries_of, entry_tok, skip_in_front, skipping, no_entry}
+use Rattle.wat_lexer.specs.Laws.Prelude.{get_or, length-append, AllByRecursion, set, drop_of_length-le, get_or-append_seam, get_or-map, map-append, get_or-set_other, Entry, Placed, Token, Annotation, is_annotation, has_annotation, drop_more}
+use Rattle.wat_lexer.specs.View.{is_paren, lying, is_annotation_kind, no_skips, own_number, AllApart, AllCanBeRead, found_tok, entry_of, entries_of, entry_tok, skip_in_front, skipping, no_entry, is_word, HasSkips, no_side_entry, lies_from, stands_at, skips_of, lying_skips, number_of, wide, Apart, tok_at, Readable, lies, last_in_side_table, CanBeRead, WasKept, PutInSideTable, FoundFits}
 use Rattle.wat_lexer.specs.declared.lexeme.Kind.{Kind}
-use Rattle.wat_lexer.specs.declared.lexeme.Kind.TheVariants as kinds
 use Rattle.wat_lexer.specs.declared.lexeme.Skips.{Skips}
 use Rattle.wat_lexer.specs.declared.lexeme.Lexeme.{Lexeme}
+use Rattle.wat_lexer.specs.declared.lexeme.Kind.TheVariants as kinds
 
 -- SKIPS ARE STORED
 
@@ -77,13 +72,13 @@ put_few kinds.InSideTable old new (t, e) = omega (arith, ap length e, length-app
 put_few _ old new e = omega (arith, ap length e)
 
 -- a token that is an annotation has the kind of an annotation
-annotation_kind : (kind : Kind) (text : List ℕ) (from end : ℕ) (P : Type 0) (other : Tok) → Readable kind text from end P other → is_annotation (tok_at kind text from end other) ≡ true → is_annotation_kind kind ≡ true
+annotation_kind : (kind : Kind) (text : List ℕ) (from end : ℕ) (P : Type 0) (other : Token) → Readable kind text from end P other → is_annotation (tok_at kind text from end other) ≡ true → is_annotation_kind kind ≡ true
 annotation_kind kinds.Annotation text from end P other h e = refl
 annotation_kind kinds.InSideTable text from end P other h e = absurd (let f : true ≡ false = sym e ∙ h.1 in cc)
 annotation_kind _ text from end P other h e = cc
 
 -- a token with the kind of an annotation is in the side table
-annotation_lies : (kind : Kind) (text : List ℕ) (from end : ℕ) {P : Type 0} (other : Tok) → Readable kind text from end P other → is_annotation_kind kind ≡ true → P × (is_annotation other ≡ true)
+annotation_lies : (kind : Kind) (text : List ℕ) (from end : ℕ) {P : Type 0} (other : Token) → Readable kind text from end P other → is_annotation_kind kind ≡ true → P × (is_annotation other ≡ true)
 annotation_lies kinds.Annotation text from end other h is = h
 annotation_lies _ text from end other h is = cc
 
@@ -130,7 +125,7 @@ skip_few known (x ∷ y ∷ ls) h = absurd (omega arith)
 -- STORED TOKENS STAY
 
 -- the token that a kind reads from the side table, if the item there is the same
-still : (kind : Kind) (text : List ℕ) (from end own : ℕ) {P Q : Type 0} (s t : Tok) (i j : ℕ) → (P → Q × (s ≡ t) × (i ≡ j)) → Readable kind text from end P t
+still : (kind : Kind) (text : List ℕ) (from end own : ℕ) {P Q : Type 0} (s t : Token) (i j : ℕ) → (P → Q × (s ≡ t) × (i ≡ j)) → Readable kind text from end P t
     → Readable kind text from end Q s × (tok_at kind text from end s ≡ tok_at kind text from end t) × (stands_at kind own i ≡ stands_at kind own j)
 still kinds.Annotation text from end own s t i j more (h, note) = let (there, same, place) = more h in ((there, rw same note), same, place)
 still kinds.InSideTable text from end own s t i j more (h, none) = let (there, same, place) = more h in ((there, rw same none), same, place)
@@ -204,7 +199,7 @@ last_put old new t e =
     (omega arith, ap (λ (a : Placed). a.token) here, ap (λ (a : Placed). a.offset) here)
 
 -- with one more token, the list has an annotation if the token is an annotation or the list had any
-pub has_more : (ts : List Tok) (t : Tok) → has_annotation (ts ++ t ∷ []) ≡ has_annotation ts || is_annotation t
+pub has_more : (ts : List Token) (t : Token) → has_annotation (ts ++ t ∷ []) ≡ has_annotation ts || is_annotation t
 has_more [] t = or-false (is_annotation t)
 has_more (x ∷ ts) t = rw (has_more ts t, or_assoc)
 
@@ -226,13 +221,13 @@ any_over s i le = rw (drop_of_length-le s le)
 pub ruleset annotation_steps = (any_step, any_over)
 
 -- a token that is read from the text isn't put into the side table
-pub plain_found : (kind : Kind) (text : List ℕ) (side_table : List Placed) (at end : ℕ) (P : Type 0) (n : List ℕ) (t : Tok) → is_annotation_kind kind ≡ false → Readable kind text at end P (Annotation n) → tok_at kind text at end (Annotation n) ≡ t → (t ≡ found_tok text side_table at end kind) × FoundFits text side_table at end kind × PutInSideTable kind side_table side_table
+pub plain_found : (kind : Kind) (text : List ℕ) (side_table : List Placed) (at end : ℕ) (P : Type 0) (n : List ℕ) (t : Token) → is_annotation_kind kind ≡ false → Readable kind text at end P (Annotation n) → tok_at kind text at end (Annotation n) ≡ t → (t ≡ found_tok text side_table at end kind) × FoundFits text side_table at end kind × PutInSideTable kind side_table side_table
 plain_found kinds.Annotation text side_table at end P n t plain h e = cc
 plain_found kinds.InSideTable text side_table at end P n t plain (there, note) e = cc
 plain_found _ text side_table at end P n t plain h e = (sym e, h, refl)
 
 -- a word isn't a paren
-pub word_no_paren : (kind : Kind) (text : List ℕ) (from end : ℕ) (other : Tok) → is_word kind ≡ true → is_paren (tok_at kind text from end other) ≡ false
+pub word_no_paren : (kind : Kind) (text : List ℕ) (from end : ℕ) (other : Token) → is_word kind ≡ true → is_paren (tok_at kind text from end other) ≡ false
 word_no_paren kinds.LParen text from end other a_word = cc
 word_no_paren kinds.RParen text from end other a_word = cc
 word_no_paren kinds.Annotation text from end other a_word = cc

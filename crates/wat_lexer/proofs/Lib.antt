@@ -3,7 +3,7 @@ pub mod Commons
 pub mod CutSoFar
 pub mod Entries
 pub mod Outcomes
-pub mod Places
+pub mod FrontAt
 pub mod Plain
 pub mod Rows
 pub mod Skips

@@ -1,16 +1,8 @@
 -- A text has one outcome: its cut or its first fault.
-use Rattle.std.proofs.lemmas.Bool.{or_parts}
-use Rattle.std.proofs.Common.{◌≡◌, ℕ, zero, suc, ◌-◌, ◌<◌, List, [], ◌∷◌, length, drop, refl, ap, sym, ◌∙◌, arith}
-use Rattle.std.specs.Prelude.{true, false}
-use Rattle.std.proofs.lemmas.List.{drop-map}
-use Rattle.wat_lexer.specs.Place.{offset_of}
-use Rattle.wat_lexer.specs.Sight.{begins_annotation_group}
-use Rattle.wat_lexer.specs.Token.{Entry, Tok, LParen, Annotation, Placed, tokens_of, is_annotation, has_annotation}
-use Rattle.wat_lexer.specs.View.{entry_tok, toks, placed, AreSkips}
+use Rattle.std.proofs.Common.{◌≡◌, ℕ, zero, suc, ◌-◌, ◌<◌, List, [], ◌∷◌, length, drop, refl, ap, sym, ◌∙◌, arith, true, false}
+use Rattle.wat_lexer.specs.Laws.Prelude.{or_parts, drop-map, offset_of, begins_annotation_group, Entry, Token, LParen, Annotation, Placed, tokens_of, is_annotation, has_annotation, entry_tok, entry_tokens, placed, AreSkips, tokens_of-placed, Cuts, IsCut, Closed, Unclosed, FirstUnclosed, FirstFault, cutting, closing}
 use Rattle.wat_lexer.specs.declared.fault.Error.{Error}
 use Rattle.wat_lexer.specs.declared.fault.Fault.TheVariants.{LexAnnotation}
-use Rattle.wat_lexer.specs.Laws.Kinds.{tokens_of-placed}
-use Rattle.wat_lexer.specs.Cut.{Cuts, IsCut, Closed, Unclosed, FirstUnclosed, FirstFault, cutting, closing}
 use Rattle.wat_lexer.specs.declared.fault.Fault.{Fault}
 use Rattle.wat_lexer.specs.Laws.Fronts as fronts
 
@@ -41,7 +33,7 @@ no_cut text f i ts (closing t us offset c (j, u, here, at, p, before)) k =
 pub left_open : {text : List ℕ} {ts : List Placed} {offset : ℕ} (e : Error) → Cuts (length text) false text ts → FirstUnclosed ts offset → e.fault ≡ LexAnnotation → offset_of e.span ≡ offset → FirstFault text e.fault (offset_of e.span)
 left_open {text} {ts} {offset} e c first f place = rw (f, place) (closing text ts offset c first)
 
-none_noted : (ts : List Tok) → has_annotation ts ≡ false → (i : ℕ) → begins_annotation_group (drop i ts) ≡ false
+none_noted : (ts : List Token) → has_annotation ts ≡ false → (i : ℕ) → begins_annotation_group (drop i ts) ≡ false
 none_noted [] e zero = refl
 none_noted [] e (suc i) = refl
 none_noted (x ∷ ts) e (suc i) = none_noted ts (or_parts (is_annotation x) (has_annotation ts) e).1 i
@@ -51,11 +43,11 @@ none_noted (LParen ∷ _ ∷ ts) e zero = refl
 none_noted (_ ∷ ts) e zero = refl
 
 -- if no token is an annotation, all annotation groups are closed
-pub closed_anyway : (ls : List Entry) → has_annotation (toks ls) ≡ false → Closed (tokens_of (placed ls))
+pub closed_anyway : (ls : List Entry) → has_annotation (entry_tokens ls) ≡ false → Closed (tokens_of (placed ls))
 closed_anyway ls e i (n, r, is, unclosed_group) =
-    let f : true ≡ false = ap begins_annotation_group (sym is) ∙ rw (tokens_of-placed ls) (none_noted (toks ls) e i) in cc
+    let f : true ≡ false = ap begins_annotation_group (sym is) ∙ rw (tokens_of-placed ls) (none_noted (entry_tokens ls) e i) in cc
 
-pub told_anyway : (ls : List Entry) → has_annotation (toks ls) ≡ false → AreSkips ls
+pub told_anyway : (ls : List Entry) → has_annotation (entry_tokens ls) ≡ false → AreSkips ls
 told_anyway ls e = λ known i h.
-    let none : begins_annotation_group (toks (drop i ls)) ≡ false = rw (← drop-map entry_tok i ls) (none_noted (toks ls) e i) in
+    let none : begins_annotation_group (entry_tokens (drop i ls)) ≡ false = rw (← drop-map entry_tok i ls) (none_noted (entry_tokens ls) e i) in
     absurd (let f = rw none at h in cc)

@@ -1,15 +1,6 @@
 -- The classes of runs of idchars, at an offset of the text.
-use Rattle.std.proofs.Common.{◌≡◌, ℕ, zero, suc, ◌+◌, ◌-◌, ◌<◌, ◌≤◌, List, [], ◌∷◌, length, drop, get_or, refl, arith, drop-drop, get_or-drop, get_or-take, length-drop, length-take}
-use Rattle.std.specs.Prelude.{Bool, true, false, slice_range, ◌==◌, ◌&&◌, ◌*◌, if◌then◌else◌, Some, None, is_some}
-use Rattle.std.specs.Char.{digit_value}
-use Rattle.std.proofs.lemmas.Bool.{and_parts}
-use Rattle.std.proofs.lemmas.Bool.Decides.{nat_tests}
-use Rattle.wat_lexer.specs.Bytes.{is_idchar, between}
-use Rattle.wat_lexer.specs.Number.{is_integer, read, begins_hex}
-use Rattle.wat_lexer.specs.Token.{Keyword, Id, Annotation, Integer, Reserved}
-use Rattle.wat_lexer.specs.Scan.{all_idchars, name_behind, or_reserved, class}
-use Rattle.wat_lexer.specs.Laws.Pieces.{excluded}
-use Rattle.wat_lexer.proofs.Steps.{at_front, at_front_two, idchar_ascii}
+use Rattle.std.proofs.Common.{◌≡◌, ℕ, zero, suc, ◌+◌, ◌-◌, ◌<◌, ◌≤◌, List, [], ◌∷◌, length, drop, get_or, refl, arith, drop-drop, get_or-drop, get_or-take, length-drop, length-take, Bool, true, false, slice_range, ◌==◌, ◌&&◌, ◌*◌, if◌then◌else◌, Some, None, is_some}
+use Rattle.wat_lexer.specs.Laws.Prelude.{digit_value, and_parts, nat_tests, is_idchar, between, is_integer, read, begins_hex, Keyword, Id, Annotation, Integer, Reserved, all_idchars, name_behind, or_reserved, class, excluded, at_front, at_front_two, idchar_ascii}
 use Rattle.wat_lexer.proofs.Values.{read_step, read_over}
 
 pub slice_front : (from end : ℕ) (s : List ℕ) → from < end → end ≤ length s → slice_range s from end ≡ get_or s from 0 ∷ slice_range s (from + 1) end
@@ -45,9 +36,9 @@ plain_name from end s order within all =
     name_plain (slice_range s (from + 1) end) (omega (arith, length-take (end - (from + 1)) (drop (from + 1) s), length-drop (from + 1) s))
     (all_tail (get_or s from 0) (slice_range s (from + 1) end) (rw (slice_front from end s (omega arith) within) at all)).1
 
-pub plain_bare : (from end : ℕ) (s : List ℕ) → from < end → end ≤ from + 1 → name_behind (slice_range s (from + 1) end) ≡ None
+pub plain_alone : (from end : ℕ) (s : List ℕ) → from < end → end ≤ from + 1 → name_behind (slice_range s (from + 1) end) ≡ None
 unfolding name_behind
-plain_bare from end s h k = let none : end - (from + 1) ≡ 0 = omega arith in rw none
+plain_alone from end s h k = let none : end - (from + 1) ≡ 0 = omega arith in rw none
 
 all_at : (x : List ℕ) (i : ℕ) → all_idchars x ≡ true → i < length x → is_idchar (get_or x i 0) ≡ true
 all_at [] i h k = absurd (omega arith)
@@ -60,7 +51,7 @@ plain_ascii from end i s within all h k =
     let at = all_at (slice_range s from end) (i - from) all (omega (arith, length-take (end - from) (drop from s), length-drop from s)) in
     idchar_ascii (get_or s i 0) (rw (get_or-take (end - from) (drop from s) (i - from) 0 (omega arith), get_or-drop, place) at at)
 
-pub ruleset plain_kinds = (plain_here, plain_name, plain_bare, plain_ascii)
+pub ruleset plain_kinds = (plain_here, plain_name, plain_alone, plain_ascii)
 
 -- NUMBERS
 

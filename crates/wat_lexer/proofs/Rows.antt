@@ -1,20 +1,12 @@
 -- Example texts and their tokens, computed with the scans.
-use Rattle.std.proofs.Common.{◌≡◌, ℕ, zero, suc, ◌-◌, ◌<◌, List, [], ◌∷◌, length, drop, refl, sym, arith}
-use Rattle.std.specs.Prelude.{Bool, true, false, Option, Some, None, option_map, is_some, ◌&&◌, ◌||◌, not, codes}
-use Rattle.std.proofs.lemmas.Bool.{and_parts}
-use lib.Utf8.{encode}
+use Rattle.std.proofs.Common.{◌≡◌, ℕ, zero, suc, ◌-◌, ◌<◌, List, [], ◌∷◌, length, drop, refl, sym, arith, Bool, true, false, Option, Some, None, option_map, is_some, ◌&&◌, ◌||◌, not, codes}
 use Rattle.std.specs.Str.{is_utf8}
-use Rattle.std.specs.List.{AllByRecursion}
 use Rattle.std.proofs.lemmas.List.Elements.{All-from_recursion}
 use Rattle.std.proofs.lemmas.Str.Ascii.{IsAscii-from_all}
-use Rattle.std.proofs.lemmas.Str.{IsUtf8-from_ascii, is_utf8-from_IsUtf8}
-use Rattle.wat_lexer.specs.Token.{Tok, Placed, tokens_of, is_open}
-use Rattle.wat_lexer.specs.Cut.{Cuts, Closed, Unclosed, IsCut, cutting, closing}
-use Rattle.wat_lexer.specs.Number.{read}
-use Rattle.wat_lexer.specs.Scan.{Beginning, Nothing, BlankTo, TokenTo, Wrong, front, behind_comment, behind_run, behind_line, string_at, step, all_idchars, string_of, name_behind, class}
-use Rattle.wat_lexer.specs.Sight.{begins_annotation_group, behind_group, visible, visible_tokens, hidden_count_at, hidden_count}
+use Rattle.wat_lexer.specs.Laws.Prelude.{and_parts, AllByRecursion, IsUtf8-from_ascii, is_utf8-from_IsUtf8, Token, Placed, tokens_of, is_open, Cuts, Closed, Unclosed, IsCut, cutting, closing, read, Beginning, Nothing, BlankTo, TokenTo, Wrong, front, behind_comment, behind_run, behind_line, string_at, step, all_idchars, string_of, name_behind, class, begins_annotation_group, behind_group, visible, visible_tokens, hidden_count_at, hidden_count, front_cut, front_fails}
+use Rattle.wat_lexer.specs.Laws.Fronts.{CutBy}
+use lib.Utf8.{encode}
 use Rattle.wat_lexer.specs.Rows.{Comments, Strings, QuotedNames, Spoiled, Integers, Values, HiddenGroups, Faults, UnclosedGroup}
-use Rattle.wat_lexer.specs.Laws.Fronts.{CutBy, front_cut, front_fails}
 
 -- CUTS
 
@@ -48,31 +40,31 @@ cuts_in (suc k) n behind s ts e = front_cut (by_front (cut_in k n) n s (λ b r u
 -- GROUPS
 
 -- the group in front is closed, if it begins with an annotation
-abbrev closes_here : List Tok → Bool
+abbrev closes_here : List Token → Bool
 closes_here ts = not (begins_annotation_group ts) || is_some (behind_group 0 (drop 2 ts))
 
-here : (ts : List Tok) → closes_here ts ≡ true → Unclosed ts 0 → ⊥
+here : (ts : List Token) → closes_here ts ≡ true → Unclosed ts 0 → ⊥
 here ts e (n, r, is, none) =
     let closed : is_some (behind_group 0 r) ≡ true = rw is at e in
     let f : false ≡ true = rw none at closed in cc
 
 -- the groups at the first k places are closed
-abbrev close_to : ℕ → List Tok → Bool
+abbrev close_to : ℕ → List Token → Bool
 close_to zero ts = true
 close_to (suc k) ts = closes_here ts && close_to k (drop 1 ts)
 
-closed_to : (k : ℕ) (ts : List Tok) → close_to k ts ≡ true → (i : ℕ) → i < k → Unclosed ts i → ⊥
+closed_to : (k : ℕ) (ts : List Token) → close_to k ts ≡ true → (i : ℕ) → i < k → Unclosed ts i → ⊥
 closed_to zero ts e i lt u = absurd (omega arith)
 closed_to (suc k) ts e zero lt u = here ts (and_parts (closes_here ts) (close_to k (drop 1 ts)) e).0 u
 closed_to (suc k) [] e (suc i) lt (n, r, is, none) = cc
 closed_to (suc k) (x ∷ ts) e (suc i) lt u = closed_to k ts (and_parts (closes_here (x ∷ ts)) (close_to k ts) e).1 i (omega arith) u
 
 -- all groups are closed
-abbrev all_close : List Tok → Bool
+abbrev all_close : List Token → Bool
 all_close [] = true
 all_close (x ∷ ts) = closes_here (x ∷ ts) && all_close ts
 
-all_closed : (ts : List Tok) → all_close ts ≡ true → Closed ts
+all_closed : (ts : List Token) → all_close ts ≡ true → Closed ts
 all_closed [] e zero (n, r, is, none) = cc
 all_closed [] e (suc i) (n, r, is, none) = cc
 all_closed (x ∷ ts) e zero u = here (x ∷ ts) (and_parts (closes_here (x ∷ ts)) (all_close ts) e).0 u

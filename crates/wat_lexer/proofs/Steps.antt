@@ -1,25 +1,9 @@
 -- One step of each scan, at an offset of the text.
-use Rattle.std.proofs.Common.{◌≡◌, ℕ, ◌+◌, ◌-◌, ◌<◌, ◌≤◌, List, [], ◌∷◌, length, drop, get_or, refl, add-one, arith, append_assoc, append-nil, drop-cons, get_or-drop, length-drop}
-use Rattle.std.specs.Prelude.{◌==◌, ◌&&◌, ◌*◌, ◌++◌, if◌then◌else◌, true, false, Option, None, Some, nat_lt, option_map, slice_range}
-use Rattle.std.specs.Char.{digit_value}
-use Rattle.std.proofs.Math.ListN.{drop_of_length-le}
-use Rattle.std.proofs.lemmas.Bool.Decides.{nat_tests}
-use Rattle.std.proofs.lemmas.List.{take_more}
+use Rattle.std.proofs.Common.{◌≡◌, ℕ, ◌+◌, ◌-◌, ◌<◌, ◌≤◌, List, [], ◌∷◌, length, drop, get_or, refl, arith, append_assoc, append-nil, get_or-drop, length-drop, ◌==◌, ◌&&◌, ◌*◌, ◌++◌, if◌then◌else◌, true, false, Option, None, Some, nat_lt, option_map, slice_range}
+use Rattle.wat_lexer.specs.Laws.Prelude.{digit_value, drop_of_length-le, nat_tests, take_more, is_raw, is_hex, short_escape, is_idchar, is_space, is_line_end, behind_line, behind_spaces, behind_run, all_idchars, behind_comment, step, emitted, string_at, after_step, with_front, rest_at, Step, Bad, Close, Into, Emit, Encode, Between, Ends, Mode, Raw, Escape, Byte, Brace, Digits, excluded, at_front, at_front_two, idchar_ascii}
+use Rattle.wat_lexer.specs.Scan.{closing}
+use Rattle.wat_lexer.specs.Laws.Pieces.{run_cons, then_run, rest_front}
 use lib.Utf8.{scalar}
-use Rattle.wat_lexer.specs.Cut.{is_raw, is_hex, short_escape}
-use Rattle.wat_lexer.specs.Bytes.{is_idchar, is_space, is_line_end}
-use Rattle.wat_lexer.specs.Scan.{behind_line, behind_spaces, behind_run, all_idchars, behind_comment, step, emitted, string_at, after_step, with_front, rest_at, closing, Step, Bad, Close, Into, Emit, Encode, Between, Ends, Mode, Raw, Escape, Byte, Brace, Digits}
-use Rattle.wat_lexer.specs.Laws.Pieces.{excluded, run_cons, then_run, rest_front}
-
--- the byte at i, and the text after it
-pub at_front : (i : ℕ) (s : List ℕ) → i < length s → drop i s ≡ get_or s i 0 ∷ drop (i + 1) s
-at_front i s h = rw (add-one, drop-cons s i 0)
-
-pub at_front_two : (i : ℕ) (s : List ℕ) → i + 1 < length s → drop i s ≡ get_or s i 0 ∷ (get_or s (i + 1) 0 ∷ drop (i + 2) s)
-at_front_two i s h =
-    let a = at_front i s (omega arith) in
-    let b = at_front (i + 1) s h in
-    let e : i + 1 + 1 ≡ i + 2 = omega arith in cc
 
 pub comment_step : (depth i : ℕ) (s : List ℕ) → i + 1 < length s →
     behind_comment depth (drop i s) ≡
@@ -151,9 +135,6 @@ run_char i s h e = let no : (get_or s i 0 == 34) ≡ false = grind (arith, nat_t
 pub run_over : (i : ℕ) (s : List ℕ) → length s ≤ i → behind_run Between (drop i s) ≡ Ends (drop i s)
 unfolding behind_run
 run_over i s h = rw (drop_of_length-le s h)
-
-pub idchar_ascii : (b : ℕ) → is_idchar b ≡ true → b < 128
-idchar_ascii b h = grind (arith, nat_tests)
 
 pub ruleset run_steps = (run_quote, run_char, run_over, idchar_ascii)
 

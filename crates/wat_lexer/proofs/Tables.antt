@@ -1,14 +1,8 @@
 -- The tables of bytes, and the search for the first byte that a table doesn't mark.
-use Rattle.std.proofs.Common.{◌≡◌, ℕ, zero, suc, ◌+◌, ◌<◌, ◌≤◌, List, Bool, true, false, length, drop, get_or, map, refl, ap, subst, sym, ◌∙◌, arith, inl, inr}
-use Rattle.std.specs.Prelude.{slice_range, ◌==◌, ◌||◌, not}
-use Rattle.std.specs.Char.{digit_value}
+use Rattle.std.proofs.Common.{◌≡◌, ℕ, zero, suc, ◌+◌, ◌<◌, ◌≤◌, List, Bool, true, false, length, drop, get_or, map, refl, ap, subst, sym, ◌∙◌, arith, inl, inr, slice_range, ◌==◌, ◌||◌, not}
 use Rattle.std.specs.List.{range_with_len}
-use Rattle.std.proofs.lemmas.Bool.{cases_lt}
-use Rattle.std.proofs.lemmas.Bool.Decides.{nat_tests}
 use Rattle.std.proofs.lemmas.List.FromFn.{get_or-map-range_with_len}
-use Rattle.wat_lexer.specs.Bytes.{is_idchar, is_space, is_line_end, between}
-use Rattle.wat_lexer.specs.Cut.{is_raw, is_hex}
-use Rattle.wat_lexer.specs.Scan.{Between, Raw, behind_run, behind_spaces, behind_line, behind_comment, all_idchars, string_at, with_front}
+use Rattle.wat_lexer.specs.Laws.Prelude.{digit_value, cases_lt, nat_tests, is_idchar, is_space, is_line_end, between, is_raw, is_hex, Between, Raw, behind_run, behind_spaces, behind_line, behind_comment, all_idchars, string_at, with_front}
 use Rattle.wat_lexer.specs.declared.byte_table.TheConstants.{SPACES, IDCHARS, DIGITS, HEX_DIGITS, DIGIT_VALUES, RAW, IN_LINE, IN_COMMENT}
 use Rattle.wat_lexer.proofs.Steps.{plain_none, plain_more, run_idchar, space_step, space_over, raw_none, raw_more, line_step, line_over, comment_step, comment_none}
 

@@ -1,11 +1,6 @@
 -- The value of an integer, at an offset of the text.
-use Rattle.std.proofs.Common.{◌≡◌, ℕ, ◌+◌, ◌*◌, ◌<◌, ◌≤◌, List, length, drop, get_or, refl, arith}
-use Rattle.std.specs.Prelude.{Bool, true, false, ◌==◌, ◌&&◌, if◌then◌else◌, Option, Some, None, nat_lt}
-use Rattle.std.specs.Char.{digit_value}
-use Rattle.std.proofs.Math.ListN.{drop_of_length-le}
-use Rattle.std.proofs.lemmas.Bool.Decides.{nat_tests}
-use Rattle.wat_lexer.specs.Number.{read, up_to}
-use Rattle.wat_lexer.proofs.Steps.{at_front}
+use Rattle.std.proofs.Common.{◌≡◌, ℕ, ◌+◌, ◌*◌, ◌<◌, ◌≤◌, List, length, drop, get_or, refl, arith, Bool, true, false, ◌==◌, ◌&&◌, if◌then◌else◌, Option, Some, None, nat_lt}
+use Rattle.wat_lexer.specs.Laws.Prelude.{digit_value, drop_of_length-le, nat_tests, read, up_to, at_front}
 use Rattle.wat_lexer.specs.Laws.Strings.{read_up}
 
 pub read_step : (base : ℕ) (behind : Bool) (n i : ℕ) (s : List ℕ) → i < length s → read base behind n (drop i s) ≡

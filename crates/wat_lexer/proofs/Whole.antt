@@ -1,19 +1,9 @@
 -- Runs with a string.
-use Rattle.std.proofs.Common.{◌≡◌, ℕ, ◌+◌, ◌-◌, ◌<◌, ◌≤◌, List, [], ◌∷◌, length, drop, take, get_or, refl, ap, ◌∙◌, arith, zero, suc, drop-drop, length-drop}
-use Rattle.std.specs.Prelude.{Bool, true, false, slice_range, ◌==◌, ◌&&◌, if◌then◌else◌, Option, Some, None, option_map}
-use Rattle.std.proofs.lemmas.Bool.{eqb-true}
-use Rattle.std.proofs.lemmas.Bool.Decides.{nat_tests}
-use Rattle.std.proofs.lemmas.Str.{IsUtf8-from_is_utf8, is_utf8-from_IsUtf8}
-use Rattle.std.proofs.lemmas.List.{length-append, drop-take, take-take}
-use Rattle.std.proofs.Math.Seq.{take-append-add}
-use Rattle.wat_lexer.specs.Bytes.{is_idchar}
-use Rattle.wat_lexer.specs.Cut.{begins}
-use Rattle.wat_lexer.specs.Token.{Tok, Id, Annotation, String, Reserved}
-use Rattle.wat_lexer.specs.Scan.{all_idchars, name_behind, or_reserved, class, string_at, string_of, text_name, whole, rest_at, Raw}
-use Rattle.wat_lexer.specs.Laws.Pieces.{excluded}
+use Rattle.std.proofs.Common.{◌≡◌, ℕ, ◌+◌, ◌-◌, ◌<◌, ◌≤◌, List, [], ◌∷◌, length, drop, take, get_or, refl, ap, ◌∙◌, arith, zero, suc, drop-drop, length-drop, Bool, true, false, slice_range, ◌==◌, ◌&&◌, if◌then◌else◌, Option, Some, None}
+use Rattle.std.proofs.lemmas.List.{drop-take, take-take}
+use Rattle.wat_lexer.specs.Laws.Prelude.{length-append, eqb-true, nat_tests, IsUtf8-from_is_utf8, is_utf8-from_IsUtf8, take-append-add, is_idchar, begins, Token, Id, Annotation, String, Reserved, all_idchars, name_behind, or_reserved, class, string_at, string_of, text_name, whole, Raw, excluded, string_sound, string_complete}
 use Rattle.wat_lexer.proofs.Plain.{slice_front, all_tail}
 use Rattle.wat_lexer.proofs.Steps.{slice_none}
-use Rattle.wat_lexer.specs.Laws.Strings.{string_sound, string_complete}
 
 pub ruleset name_steps = (IsUtf8-from_is_utf8, is_utf8-from_IsUtf8, nat_tests)
 
@@ -45,7 +35,7 @@ name_string [] h = refl
 name_string (b ∷ t) h = rw h
 
 -- the class of a run that begins with an idchar, by this idchar and the name after it
-abbrev pub marked : Bool → ℕ → List ℕ → Option (List ℕ) → Tok
+abbrev pub marked : Bool → ℕ → List ℕ → Option (List ℕ) → Token
 marked behind b x o = if b == 36 then or_reserved Id x o else (if behind && (b == 64) then or_reserved Annotation x o else Reserved x)
 
 class_behind : (behind : Bool) (b : ℕ) (t : List ℕ) → is_idchar b ≡ true → all_idchars t ≡ false → class behind (b ∷ t) ≡ marked behind b (b ∷ t) (text_name (string_of t))
@@ -56,7 +46,7 @@ no_name : (behind : Bool) (b : ℕ) (x : List ℕ) → marked behind b x None �
 no_name behind b x = grind (arith, nat_tests)
 
 -- the class of a run whose first string begins at q
-abbrev pub classed : Bool → ℕ → List ℕ → Tok
+abbrev pub classed : Bool → ℕ → List ℕ → Token
 classed behind zero x = or_reserved String x (string_of x)
 classed behind (suc zero) x = marked behind (get_or x 0 0) x (text_name (string_of (drop 1 x)))
 classed behind (suc (suc q)) x = Reserved x

@@ -1,18 +1,14 @@
 -- How a text is cut into tokens.
-use Rattle.std.specs.Prelude.{◌≡◌, ℕ, ◌+◌, ◌-◌, ◌*◌, ◌<◌, Bool, true, false, List, [], ◌∷◌, ◌++◌}
-use Rattle.std.specs.Prelude.{length, Option, Some, None, ◌⊎◌, ◌==◌, ◌&&◌, not, nat_lt, nat_le}
-use Rattle.std.specs.Prelude.{if◌then◌else◌, encode_utf8, slice_get, drop}
+use Rattle.std.specs.Prelude.{◌≡◌, ℕ, ◌+◌, ◌-◌, ◌*◌, ◌<◌, Bool, true, false, List, [], ◌∷◌, ◌++◌, length, Option, Some, None, ◌⊎◌, ◌==◌, ◌&&◌, not, nat_lt, nat_le, if◌then◌else◌, encode_utf8, slice_get, drop}
 use Rattle.std.specs.List.{AllByRecursion}
 use Rattle.std.specs.Char.{digit_value, IsScalar}
 use Rattle.std.specs.Str.{IsUtf8}
 use Rattle.wat_lexer.specs.Bytes.{is_space, is_line_end, is_idchar, between}
 use Rattle.wat_lexer.specs.Number.{number, is_integer}
 use Rattle.wat_lexer.specs.Sight.{behind_group}
-use Rattle.wat_lexer.specs.Token.{Tok, LParen, RParen, Keyword, Id, Annotation, Integer, String}
-use Rattle.wat_lexer.specs.Token.{Reserved, Placed, tokens_of, is_open}
+use Rattle.wat_lexer.specs.Token.{Token, LParen, RParen, Keyword, Id, Annotation, Integer, String, Reserved, Placed, tokens_of, is_open}
 use Rattle.wat_lexer.specs.declared.fault.Fault.{Fault}
-use Rattle.wat_lexer.specs.declared.fault.Fault.TheVariants.{LexChar, LexString, LexComment}
-use Rattle.wat_lexer.specs.declared.fault.Fault.TheVariants.{LexAnnotation}
+use Rattle.wat_lexer.specs.declared.fault.Fault.TheVariants.{LexChar, LexString, LexComment, LexAnnotation}
 
 -- STRINGS
 
@@ -95,7 +91,7 @@ Name mark x n =
     × (((y ≡ n) × Idchars n) ⊎ (IsString y n × IsUtf8 n))
 
 -- The class and the content of a run. The flag is true if a `(` is directly before the run.
-abbrev pub Classed : Bool → List ℕ → Tok → Type 0
+abbrev pub Classed : Bool → List ℕ → Token → Type 0
 Classed behind x (Keyword k) =
     (x ≡ k) × Idchars x × (b : ℕ) × (y : List ℕ) × (x ≡ b ∷ y) × (between 97 122 b ≡ true)
 Classed behind x (Id n) = Name 36 x n
@@ -107,12 +103,13 @@ Classed behind x RParen = ⊥
 Classed behind x (Reserved k) = ⊥
 
 -- a token that the rest can follow
-abbrev pub Token : Bool → List ℕ → List ℕ → Tok → Type 0
-Token behind x rest LParen = (x ≡ 40 ∷ []) × Begins (λ b. not (b == 59)) rest
-Token behind x rest RParen = x ≡ 41 ∷ []
-Token behind x rest (Reserved k) =
-    (x ≡ k) × (0 < length x) × Run x × Begins in_no_run rest × ((t : Tok) → Classed behind x t → ⊥)
-Token behind x rest t = Run x × Begins in_no_run rest × Classed behind x t
+abbrev pub IsToken : Bool → List ℕ → List ℕ → Token → Type 0
+IsToken behind x rest LParen = (x ≡ 40 ∷ []) × Begins (λ b. not (b == 59)) rest
+IsToken behind x rest RParen = x ≡ 41 ∷ []
+IsToken behind x rest (Reserved k) =
+    (x ≡ k) × (0 < length x) × Run x × Begins in_no_run rest × ((t : Token) → Classed behind x t
+    → ⊥)
+IsToken behind x rest t = Run x × Begins in_no_run rest × Classed behind x t
 
 -- TEXTS
 
@@ -122,20 +119,20 @@ pub data Cuts : ℕ → Bool → List ℕ → List Placed → Type 0 where
   done : (n : ℕ) (behind : Bool) → Cuts n behind [] []
   blank : (n : ℕ) (behind : Bool) (text x rest : List ℕ) (ts : List Placed) → text ≡ x ++ rest
       → Blank x rest → Cuts n false rest ts → Cuts n behind text ts
-  token : (n : ℕ) (behind : Bool) (text x rest : List ℕ) (t : Tok) (ts : List Placed)
-      → text ≡ x ++ rest → Token behind x rest t → Cuts n (is_open t) rest ts
+  token : (n : ℕ) (behind : Bool) (text x rest : List ℕ) (t : Token) (ts : List Placed)
+      → text ≡ x ++ rest → IsToken behind x rest t → Cuts n (is_open t) rest ts
       → Cuts n behind text (record { token = t; offset = n - length text } ∷ ts)
 
 -- GROUPS
 
 -- a group that begins with an annotation is at the index, and isn't closed
-abbrev pub Unclosed : List Tok → ℕ → Type 0
+abbrev pub Unclosed : List Token → ℕ → Type 0
 Unclosed ts i =
-    (n : List ℕ) × (rest : List Tok) × (drop i ts ≡ LParen ∷ (Annotation n ∷ rest))
+    (n : List ℕ) × (rest : List Token) × (drop i ts ≡ LParen ∷ (Annotation n ∷ rest))
     × (behind_group 0 rest ≡ None)
 
 -- each group that begins with an annotation is closed
-abbrev pub Closed : List Tok → Type 0
+abbrev pub Closed : List Token → Type 0
 Closed ts = (i : ℕ) → Unclosed ts i → ⊥
 
 -- The tokens with their offsets are the text's cut.
@@ -162,8 +159,8 @@ pub data Fails : Bool → List ℕ → Fault → List ℕ → Type 0 where
       → Fails behind text f at
   behind_blank : (behind : Bool) (text x rest : List ℕ) (f : Fault) (at : List ℕ) → text ≡ x ++ rest
       → Blank x rest → Fails false rest f at → Fails behind text f at
-  behind_token : (behind : Bool) (text x rest : List ℕ) (t : Tok) (f : Fault) (at : List ℕ)
-      → text ≡ x ++ rest → Token behind x rest t → Fails (is_open t) rest f at
+  behind_token : (behind : Bool) (text x rest : List ℕ) (t : Token) (f : Fault) (at : List ℕ)
+      → text ≡ x ++ rest → IsToken behind x rest t → Fails (is_open t) rest f at
       → Fails behind text f at
 
 -- the number is the offset of the first group that begins with an annotation and isn't closed

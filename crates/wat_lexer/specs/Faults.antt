@@ -2,13 +2,7 @@
 use Rattle.std.specs.Prelude.{ℕ, List, codes}
 use Rattle.wat_lexer.specs.declared.fault.Error.{Error}
 use Rattle.wat_lexer.specs.declared.fault.Fault.{Fault}
-use Rattle.wat_lexer.specs.declared.fault.Fault.TheVariants.{Memory, LexChar, LexString, LexComment}
-use Rattle.wat_lexer.specs.declared.fault.Fault.TheVariants.{LexAnnotation, Unexpected, Range, Utf8}
-use Rattle.wat_lexer.specs.declared.fault.Fault.TheVariants.{FloatLiteral, Alignment, PageSize}
-use Rattle.wat_lexer.specs.declared.fault.Fault.TheVariants.{Operator, ParamAfterResult}
-use Rattle.wat_lexer.specs.declared.fault.Fault.TheVariants.{IfWithoutThen, IfTooMany, HintValue}
-use Rattle.wat_lexer.specs.declared.fault.Fault.TheVariants.{HintTwice, HintPlace, ImportMixed}
-use Rattle.wat_lexer.specs.declared.fault.Fault.TheVariants.{ImportId, HintTarget}
+use Rattle.wat_lexer.specs.declared.fault.Fault.TheVariants.{Memory, LexChar, LexString, LexComment, LexAnnotation, Unexpected, Range, Utf8, FloatLiteral, Alignment, PageSize, Operator, ParamAfterResult, IfWithoutThen, IfTooMany, HintValue, HintTwice, HintPlace, ImportMixed, ImportId, HintTarget}
 
 abbrev pub fault_number : Fault → ℕ
 fault_number Memory = 1

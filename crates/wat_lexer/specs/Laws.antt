@@ -1,4 +1,6 @@
 -- Laws of the definitions: lemmas that other crates use.
+pub mod Bytes
+pub mod Cases
 pub mod Classes
 pub mod Fronts
 pub mod Hidden
@@ -6,3 +8,4 @@ pub mod Kinds
 pub mod Pieces
 pub mod Strings
 pub mod VisibleFrom
+pub mod Prelude

@@ -4,9 +4,10 @@ pub mod Faults
 pub mod Integer
 pub mod Laws
 pub mod Number
-pub mod Place
+pub mod Offset
 pub mod Rows
 pub mod Scan
 pub mod Sight
 pub mod Token
 pub mod View
+pub mod Prelude

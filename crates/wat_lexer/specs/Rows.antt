@@ -1,15 +1,9 @@
 -- Example texts, and their tokens with offsets in bytes.
-use Rattle.std.specs.Prelude.{◌≡◌, ℕ, List, [], ◌∷◌, codes, true, false, Some, None}
-use Rattle.std.specs.Prelude.{pos, neg_ℤ}
-use Rattle.wat_lexer.specs.Token.{Tok, LParen, RParen, Keyword, Id, Annotation, Integer, String}
-use Rattle.wat_lexer.specs.Token.{Reserved, Placed}
-use Rattle.wat_lexer.specs.Cut.{IsCut, FirstFault}
-use Rattle.wat_lexer.specs.Number.{unsigned_value, signed_value}
-use Rattle.wat_lexer.specs.Sight.{hidden_count, visible_tokens}
-use Rattle.wat_lexer.specs.declared.fault.Fault.TheVariants.{LexChar, LexString, LexComment}
-use Rattle.wat_lexer.specs.declared.fault.Fault.TheVariants.{LexAnnotation}
+use Rattle.std.specs.Prelude.{neg_ℤ, ◌≡◌, ℕ, List, [], ◌∷◌, codes, true, false, Some, None, pos}
+use Rattle.wat_lexer.specs.Prelude.{Token, LParen, RParen, Keyword, Id, Annotation, Integer, String, Reserved, Placed, IsCut, FirstFault, unsigned_value, signed_value, hidden_count, visible_tokens}
+use Rattle.wat_lexer.specs.declared.fault.Fault.TheVariants.{LexChar, LexString, LexComment, LexAnnotation}
 
-abbrev pub at : ℕ → Tok → Placed
+abbrev pub at : ℕ → Token → Placed
 at n t = record { token = t; offset = n }
 
 -- a line comment with a `(`, and a block comment with a nested comment and a quote
@@ -57,13 +51,13 @@ Values =
     × (signed_value 8 (codes "255") ≡ Some (neg_ℤ (pos 1))) × (signed_value 8 (codes "-129") ≡ None)
 
 -- `(@custom (a)) b`
-abbrev custom_group : List Tok
+abbrev custom_group : List Token
 custom_group =
     LParen ∷ Annotation (codes "custom") ∷ LParen ∷ Keyword (codes "a") ∷ RParen ∷ RParen
     ∷ Keyword (codes "b") ∷ []
 
 -- `(@x) (@custom (a)) b`
-abbrev two_groups : List Tok
+abbrev two_groups : List Token
 two_groups = LParen ∷ Annotation (codes "x") ∷ RParen ∷ custom_group
 
 -- the group of `@custom` is hidden if the five names aren't known; the group of `@x` always is

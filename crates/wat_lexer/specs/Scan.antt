@@ -1,16 +1,12 @@
 -- The ends of comments, strings and runs, and the blank or token in front of a text.
-use Rattle.std.specs.Prelude.{◌≡◌, ◌≤◌, ◌<◌, drop, slice_range, Result, Ok, Err, ℕ, ◌+◌, ◌-◌, ◌*◌, Bool, true, false}
-use Rattle.std.specs.Prelude.{List, [], ◌∷◌, ◌++◌, take, length, Option, Some, None, option_map}
-use Rattle.std.specs.Prelude.{◌==◌, ◌&&◌, nat_lt, if◌then◌else◌, encode_utf8}
+use Rattle.std.specs.Prelude.{◌≡◌, ◌≤◌, ◌<◌, drop, slice_range, Result, Ok, Err, ℕ, ◌+◌, ◌-◌, ◌*◌, Bool, true, false, List, [], ◌∷◌, ◌++◌, take, length, Option, Some, None, option_map, ◌==◌, ◌&&◌, nat_lt, if◌then◌else◌, encode_utf8}
 use Rattle.std.specs.Char.{digit_value}
-use lib.Utf8.{scalar}
-use Rattle.wat_lexer.specs.Bytes.{is_idchar, between}
 use Rattle.std.specs.Str.{is_utf8}
-use Rattle.wat_lexer.specs.Bytes.{is_space, is_line_end}
+use lib.Utf8.{scalar}
+use Rattle.wat_lexer.specs.Bytes.{is_idchar, between, is_space, is_line_end}
 use Rattle.wat_lexer.specs.Number.{is_integer}
 use Rattle.wat_lexer.specs.Cut.{is_raw, is_hex, short_escape, begins}
-use Rattle.wat_lexer.specs.Token.{Tok, LParen, RParen, Keyword, Id, Annotation, Integer, String}
-use Rattle.wat_lexer.specs.Token.{Reserved}
+use Rattle.wat_lexer.specs.Token.{Token, LParen, RParen, Keyword, Id, Annotation, Integer, String, Reserved}
 use Rattle.wat_lexer.specs.declared.fault.Fault.{Fault}
 use Rattle.wat_lexer.specs.declared.fault.Fault.TheVariants.{LexChar, LexString, LexComment}
 use Rattle.wat_lexer.specs.declared.string.Escaped.{Escaped}
@@ -149,12 +145,12 @@ unfoldable pub name_behind : List ℕ → Option (List ℕ)
 name_behind [] = None
 name_behind (b ∷ t) = if all_idchars (b ∷ t) then Some (b ∷ t) else text_name (string_of (b ∷ t))
 
-abbrev pub or_reserved : (List ℕ → Tok) → List ℕ → Option (List ℕ) → Tok
+abbrev pub or_reserved : (List ℕ → Token) → List ℕ → Option (List ℕ) → Token
 or_reserved make x None = Reserved x
 or_reserved make x (Some n) = make n
 
 -- the class of a run
-unfoldable pub class : Bool → List ℕ → Tok
+unfoldable pub class : Bool → List ℕ → Token
 class behind [] = Reserved []
 class behind (b ∷ t) =
     if b == 34 then or_reserved String (b ∷ t) (string_of (b ∷ t))
@@ -168,7 +164,7 @@ class behind (b ∷ t) =
 pub data Beginning : Type 0 where
   Nothing : Beginning
   BlankTo : List ℕ → Beginning
-  TokenTo : Tok → List ℕ → Beginning
+  TokenTo : Token → List ℕ → Beginning
   Wrong : Fault → List ℕ → Beginning
 
 abbrev pub tail : List ℕ → List ℕ

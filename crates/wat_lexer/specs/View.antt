@@ -1,29 +1,25 @@
 -- The code's tokens as contracts see them.
-use Rattle.std.specs.Prelude.{◌≡◌, ◌≢◌, ℕ, ◌≤◌, ◌<◌, ◌+◌, ◌-◌, ◌*◌, List, [], ◌∷◌, ◌++◌, length, drop}
-use Rattle.std.specs.Prelude.{map, Bool, true, false, ◌||◌, Result, Ok, Err, MatchOption}
-use Rattle.std.specs.Prelude.{slice_range}
+use Rattle.std.specs.Prelude.{◌≡◌, ◌≢◌, ℕ, ◌≤◌, ◌<◌, ◌+◌, ◌-◌, ◌*◌, List, [], ◌∷◌, ◌++◌, length, drop, map, Bool, true, false, ◌||◌, Result, Ok, Err, MatchOption, slice_range}
 use Rattle.std.specs.List.{AllByRecursion}
 use Rattle.std.specs.Str.{IsUtf8}
 use Rattle.std.proofs.Math.ListN.{get_or}
-use Rattle.wat_lexer.specs.Token.{Tok, Placed, Entry, LParen, RParen, Keyword, Id, Annotation}
-use Rattle.wat_lexer.specs.Token.{Integer, String, Reserved, is_open, is_close, is_annotation}
-use Rattle.wat_lexer.specs.Token.{has_annotation}
+use Rattle.wat_lexer.specs.Token.{Token, Placed, Entry, LParen, RParen, Keyword, Id, Annotation, Integer, String, Reserved, is_open, is_close, is_annotation, has_annotation}
 use Rattle.wat_lexer.specs.Cut.{Fails}
 use Rattle.wat_lexer.specs.Integer.{text_of}
-use Rattle.wat_lexer.specs.Place.{offset_of}
+use Rattle.wat_lexer.specs.Offset.{offset_of}
 use Rattle.wat_lexer.specs.Scan.{Beginning, BlankTo, TokenTo, Wrong, all_idchars}
 use Rattle.wat_lexer.specs.Sight.{begins_hidden_group, hidden_count, visible_tokens}
-use Rattle.wat_lexer.specs.declared.token.Token.{Token}
-use Rattle.wat_lexer.specs.declared.token.Token.TheVariants as of
 use Rattle.wat_lexer.specs.declared.lexeme.Kind.{Kind}
-use Rattle.wat_lexer.specs.declared.lexeme.Kind.TheVariants as kinds
 use Rattle.wat_lexer.specs.declared.lexeme.Skips.{Skips}
 use Rattle.wat_lexer.specs.declared.lexeme.Lexeme.{Lexeme}
 use Rattle.wat_lexer.specs.declared.cut.Piece.{Piece}
 use Rattle.wat_lexer.specs.declared.fault.Error.{Error}
 use Rattle.wat_lexer.specs.declared.fault.Fault.TheVariants.{Memory}
+use Rattle.wat_lexer.specs.declared.token.Token as code
+use Rattle.wat_lexer.specs.declared.token.Token.TheVariants as of
+use Rattle.wat_lexer.specs.declared.lexeme.Kind.TheVariants as kinds
 
-abbrev pub view : Token → Tok
+abbrev pub view : code.Token → Token
 view of.LParen = LParen
 view of.RParen = RParen
 view (of.Keyword s) = Keyword s.now
@@ -34,7 +30,7 @@ view (of.String s) = String s.now
 view (of.Reserved s) = Reserved s.now
 
 -- The token between two offsets of a text, by its kind. `other` is the token in the side table.
-abbrev pub tok_at : Kind → List ℕ → ℕ → ℕ → Tok → Tok
+abbrev pub tok_at : Kind → List ℕ → ℕ → ℕ → Token → Token
 tok_at kinds.LParen text from end other = LParen
 tok_at kinds.RParen text from end other = RParen
 tok_at kinds.Keyword text from end other = Keyword (slice_range text from end)
@@ -46,7 +42,7 @@ tok_at kinds.Reserved text from end other = Reserved (slice_range text from end)
 tok_at kinds.InSideTable text from end other = other
 
 -- the token of a kind, by its content, its name or its text
-abbrev pub tok_of : Kind → List ℕ → Tok
+abbrev pub tok_of : Kind → List ℕ → Token
 tok_of kinds.LParen content = LParen
 tok_of kinds.RParen content = RParen
 tok_of kinds.Keyword content = Keyword content
@@ -69,7 +65,7 @@ Word front text from end =
 
 -- A token of the kind can be read from the text there, or is in the side table. `other` is the
 -- token in the side table. The kind decides whether it must be an annotation.
-abbrev pub Readable : Kind → List ℕ → ℕ → ℕ → Type 0 → Tok → Type 0
+abbrev pub Readable : Kind → List ℕ → ℕ → ℕ → Type 0 → Token → Type 0
 Readable kinds.LParen text from end stored other = Unit {0}
 Readable kinds.RParen text from end stored other = Unit {0}
 Readable kinds.Keyword text from end stored other = Word 0 text from end
@@ -80,7 +76,7 @@ Readable kinds.String text from end stored other = (from + 1 < end) × (end ≤ 
 Readable kinds.Reserved text from end stored other = Word 0 text from end
 Readable kinds.InSideTable text from end stored other = stored × (is_annotation other ≡ false)
 
-abbrev pub is_paren : Tok → Bool
+abbrev pub is_paren : Token → Bool
 is_paren t = is_open t || is_close t
 
 -- no tokens are skipped
@@ -92,7 +88,7 @@ abbrev pub no_side_entry : Placed
 no_side_entry = record { token = LParen; offset = 0 }
 
 -- the token at an index of the side table
-abbrev pub lies : List Placed → ℕ → Tok
+abbrev pub lies : List Placed → ℕ → Token
 lies side_table i = (get_or side_table i no_side_entry).token
 
 -- the offset in the text of the token at an index of the side table
@@ -104,16 +100,16 @@ abbrev pub lying_skips : List Skips → ℕ → Skips
 lying_skips skips i = get_or skips i no_skips
 
 -- the tokens in the side table
-abbrev pub lying : List Placed → List Tok
+abbrev pub lying : List Placed → List Token
 lying side_table = map (λ x. x.token) side_table
 
 -- the last token in the side table
-abbrev pub last_in_side_table : List Placed → Tok
+abbrev pub last_in_side_table : List Placed → Token
 last_in_side_table side_table = lies side_table (length side_table - 1)
 
 -- The token found between two offsets of the text, by its kind. A token that isn't read from the
 -- text is the last in the side table.
-abbrev pub found_tok : List ℕ → List Placed → ℕ → ℕ → Kind → Tok
+abbrev pub found_tok : List ℕ → List Placed → ℕ → ℕ → Kind → Token
 found_tok text side_table at end kind = tok_at kind text at end (last_in_side_table side_table)
 
 -- the token can be read from the text there, or is the last in the side table
@@ -242,12 +238,12 @@ pub record WasKept (text : List ℕ) (side_table : List Placed) (at end : ℕ) (
   pub last : is_annotation_kind x.kind ≡ true
       → (is_annotation_kind kind ≡ true) × (own_number x + 1 ≡ length side_table)
 
-abbrev pub entry_tok : Entry → Tok
+abbrev pub entry_tok : Entry → Token
 entry_tok x = x.token
 
 -- the tokens without their offsets
-abbrev pub toks : List Entry → List Tok
-toks ls = map entry_tok ls
+abbrev pub entry_tokens : List Entry → List Token
+entry_tokens ls = map entry_tok ls
 
 abbrev pub placed_of : Entry → Placed
 placed_of x = record { token = x.token; offset = x.offset }
@@ -278,29 +274,29 @@ skip_in_front known (x ∷ y ∷ ls) = skip known y.skips
 -- the skip of each hidden group is the number of hidden tokens from the group on
 abbrev pub AreSkips : List Entry → Type 0
 AreSkips ls =
-    (known : Bool) (i : ℕ) → begins_hidden_group known (toks (drop i ls)) ≡ true
-    → skip_in_front known (drop i ls) ≡ hidden_count known (toks (drop i ls))
+    (known : Bool) (i : ℕ) → begins_hidden_group known (entry_tokens (drop i ls)) ≡ true
+    → skip_in_front known (drop i ls) ≡ hidden_count known (entry_tokens (drop i ls))
 
 -- the visible tokens begin with the first token of the list
-abbrev pub VisibleFrom : Bool → List Entry → List Tok → Type 0
+abbrev pub VisibleFrom : Bool → List Entry → List Token → Type 0
 VisibleFrom known [] t = t ≡ []
-VisibleFrom known (x ∷ ls) t = t ≡ entry_tok x ∷ visible_tokens known (toks ls)
+VisibleFrom known (x ∷ ls) t = t ≡ entry_tok x ∷ visible_tokens known (entry_tokens ls)
 
 -- `place` is the index of the first visible token from index `at` on, or the number of tokens if no
 -- visible token follows. The same tokens are visible from `place` on as from `at` on.
 pub record IsNextVisible (known : Bool) (at : ℕ) (ls : List Entry) (place : ℕ) : Type 0 where
-  pub value : place ≡ at + hidden_count known (toks (drop at ls))
+  pub value : place ≡ at + hidden_count known (entry_tokens (drop at ls))
   pub within : place ≤ length ls
-  pub first : VisibleFrom known (drop place ls) (visible_tokens known (toks (drop at ls)))
-  pub same : visible_tokens known (toks (drop place ls)) ≡ visible_tokens known (toks (drop at ls))
-  pub stops : hidden_count known (toks (drop place ls)) ≡ 0
+  pub first : VisibleFrom known (drop place ls) (visible_tokens known (entry_tokens (drop at ls)))
+  pub same : visible_tokens known (entry_tokens (drop place ls)) ≡ visible_tokens known (entry_tokens (drop at ls))
+  pub stops : hidden_count known (entry_tokens (drop place ls)) ≡ 0
 
 -- p holds for any error except Memory
 abbrev pub IfFault : Error → Type 0 → Type 0
 IfFault e p = e.fault ≢ Memory → p
 
 -- the token was put into the side table; it begins at the offset, in any text and with any end
-abbrev pub IsPut : List Placed → List Placed → ℕ → Tok → Kind → Type 0
+abbrev pub IsPut : List Placed → List Placed → ℕ → Token → Kind → Type 0
 IsPut old new at t k =
     (text : List ℕ) (end : ℕ) → (t ≡ found_tok text new at end k) × FoundFits text new at end k
     × PutInSideTable k old new

@@ -1,10 +1,7 @@
 //! The class of a run.
 
-ghost use Rattle.std.specs.Prelude.{◌≡◌, ◌+◌, ◌-◌, ◌≤◌, ◌<◌, ◌++◌, true, false, option_map, IfOk};
-ghost use Rattle.std.specs.Prelude.{OnOk};
-ghost use Rattle.std.specs.Prelude.{IsTrue, Some, length, drop, take, slice_range, slice_index};
-ghost use Rattle.wat_lexer.specs.Scan.{all_idchars, string_at, rest_at, spelled, string_of, class};
-ghost use Rattle.wat_lexer.specs.Scan.{text_name, Raw};
+ghost use Rattle.std.specs.Prelude.{◌≡◌, ◌+◌, ◌-◌, ◌≤◌, ◌<◌, true, false, option_map, Some, length, drop, take, slice_range, slice_index};
+ghost use Rattle.wat_lexer.specs.Scan.{all_idchars, string_of, class, text_name};
 ghost use Rattle.wat_lexer.specs.Token.{Annotation};
 ghost use Rattle.wat_lexer.specs.View.{view, tok_at, Readable, Word, is_paren};
 

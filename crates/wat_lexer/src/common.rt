@@ -1,12 +1,10 @@
 //! Fast recognition of common tokens, by their first byte and the end of their bytes.
 
-ghost use Rattle.std.specs.Prelude.{◌≡◌, ◌+◌, ◌-◌, ◌≤◌, ◌<◌, IfSome, IsTrue, Bool, List, Some};
-ghost use Rattle.std.specs.Prelude.{true, false, length, drop, slice_range, slice_index};
+ghost use Rattle.std.specs.Prelude.{◌≡◌, ◌+◌, ◌-◌, ◌≤◌, ◌<◌, IfSome, IsTrue, Bool, List, Some, true, false, length, drop, slice_range, slice_index};
 ghost use Rattle.wat_lexer.specs.Bytes.{is_idchar, between};
 ghost use Rattle.wat_lexer.specs.Cut.{begins, in_no_run};
 ghost use Rattle.wat_lexer.specs.Number.{is_integer};
-ghost use Rattle.wat_lexer.specs.Scan.{front, behind_run, string_at, IsWholeWord};
-ghost use Rattle.wat_lexer.specs.Scan.{Between, Ends, Raw};
+ghost use Rattle.wat_lexer.specs.Scan.{front, behind_run, string_at, IsWholeWord, Between, Ends, Raw};
 ghost use Rattle.wat_lexer.specs.Token.{Placed};
 ghost use Rattle.wat_lexer.specs.View.{PieceIs, HasRoom, is_word, near_limit, word_limit};
 
@@ -17,7 +15,7 @@ use crate::string::raw_end;
 
 /// Whether the byte at offset `at` is `b`.
 #[inline(always)]
-#[tactic(auto, using(crate::proofs::Places::begins_at))]
+#[tactic(auto, using(crate::specs::Laws::Bytes::begins_at))]
 fn is_at(text: &[u8], at: usize, b: u8) -> bool
     ensures { result ≡ begins b (drop at text.now) }
 {

@@ -1,16 +1,11 @@
 //! Cuts a text into tokens.
 
-ghost use Rattle.std.specs.Prelude.{◌≡◌, ◌&&◌, ◌==◌, ◌+◌, ◌-◌, ◌≤◌, ◌<◌};
-ghost use Rattle.std.specs.Prelude.{IfOk, IfErr, IfSome, IsTrue, ℕ, List};
-ghost use Rattle.std.specs.Prelude.{true, false, length, drop, slice_range, slice_index, nat_lt};
-ghost use Rattle.std.specs.Prelude.{if◌then◌else◌};
+ghost use Rattle.std.specs.Prelude.{◌≡◌, ◌&&◌, ◌==◌, ◌+◌, ◌-◌, ◌≤◌, ◌<◌, IfOk, IfErr, IfSome, IsTrue, ℕ, List, true, false, length, drop, slice_range, slice_index, nat_lt, if◌then◌else◌};
 ghost use Rattle.wat_lexer.specs.Cut.{Cuts, FirstFault, IsCut};
-ghost use Rattle.wat_lexer.specs.Place.{offset_of};
+ghost use Rattle.wat_lexer.specs.Offset.{offset_of};
 ghost use Rattle.wat_lexer.specs.Scan.{front, run_front, behind_run, all_idchars, Between, Ends};
-ghost use Rattle.wat_lexer.specs.Token.{Placed, has_annotation, is_annotation, is_open};
-ghost use Rattle.wat_lexer.specs.View.{view, toks, placed, is_paren, lying, AreSkips, IsPut};
-ghost use Rattle.wat_lexer.specs.View.{FrontGives, IfFault, FailsAt, HasRoom, is_word};
-ghost use Rattle.wat_lexer.specs.View.{FoundFits, found_tok, text_limit, lying_skips, no_skips};
+ghost use Rattle.wat_lexer.specs.Token.{Placed, has_annotation, is_open};
+ghost use Rattle.wat_lexer.specs.View.{view, entry_tokens, placed, is_paren, lying, AreSkips, IsPut, FrontGives, IfFault, FailsAt, HasRoom, is_word, FoundFits, found_tok, text_limit, lying_skips, no_skips};
 ghost use Rattle.wat_lexer.specs.declared.fault.Fault.{Fault};
 
 use crate::class::{part, plain_kind, string_token};
@@ -62,7 +57,7 @@ fn put<'a>(
 }
 
 /// Reads the run at offset `at`. Puts a token that isn't read from the text into the side table.
-#[tactic(auto, using(crate::proofs::Places::run_steps))]
+#[tactic(auto, using(crate::proofs::FrontAt::run_steps))]
 fn run<'a>(
     text: &'a str,
     at: usize,
@@ -122,7 +117,7 @@ fn plain_run<'a>(
 /// Reads the run at offset `at`, whose first string begins at `quote`.
 // Inlining this function slows the cut of texts without escapes.
 #[inline(never)]
-#[tactic(auto, using(crate::proofs::Places::run_steps))]
+#[tactic(auto, using(crate::proofs::FrontAt::run_steps))]
 fn string_run<'a>(
     text: &'a str,
     at: usize,
@@ -173,7 +168,7 @@ fn string_run<'a>(
 
 /// Reads the blank or token at offset `at`. Puts a token that isn't read from the text into the
 /// side table.
-#[tactic(auto, using(crate::proofs::Places::front_steps))]
+#[tactic(auto, using(crate::proofs::FrontAt::front_steps))]
 fn front<'a>(
     text: &'a str,
     at: usize,
@@ -332,7 +327,7 @@ fn cut_pieces<'a>(
 ) -> Result<(Tokens<'a>, bool), Error>
     requires { length text.now < text_limit }
     ensures found { IfOk result (λ v. Cuts (length text.now) false text.now (placed v.0)) }
-    ensures noted { IfOk result (λ v. v.1 ≡ has_annotation (toks v.0)) }
+    ensures noted { IfOk result (λ v. v.1 ≡ has_annotation (entry_tokens v.0)) }
     ensures fails { IfErr result (λ e. IfFault e (FailsAt text.now e)) }
 {
     let bytes = text.as_bytes();

@@ -1,10 +1,8 @@
 //! Decodes strings.
 
-ghost use Rattle.std.specs.Prelude.{◌≡◌, ◌+◌, ◌-◌, ◌≤◌, ◌<◌, ◌++◌, false, option_map, IfOk, IfSome};
-ghost use Rattle.std.specs.Prelude.{OnOk, MatchOption, None, Some, length, drop, slice_range, slice_index};
-ghost use Rattle.std.specs.Prelude.{if◌then◌else◌};
+ghost use Rattle.std.specs.Prelude.{◌≡◌, ◌+◌, ◌-◌, ◌≤◌, ◌<◌, ◌++◌, false, option_map, IfOk, IfSome, OnOk, None, Some, length, drop, slice_range, slice_index, if◌then◌else◌};
 ghost use Rattle.wat_lexer.specs.Cut.{is_raw};
-ghost use Rattle.wat_lexer.specs.Scan.{string_at, rest_at, spelled, with_front, Raw};
+ghost use Rattle.wat_lexer.specs.Scan.{string_at, spelled, with_front, Raw};
 
 use crate::string::{Escaped, escape, raw_end};
 use bumpalo::Bump;

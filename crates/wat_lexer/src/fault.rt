@@ -1,7 +1,7 @@
 //! Errors of a text.
 
 ghost use Rattle.std.specs.Prelude.{◌≡◌};
-ghost use Rattle.wat_lexer.specs.Place.{offset_of};
+ghost use Rattle.wat_lexer.specs.Offset.{offset_of};
 ghost use Rattle.wat_lexer.specs.Faults.{fault_number, fault_name};
 
 use crate::span::Span;

@@ -1,11 +1,10 @@
 //! The ends of annotation groups.
 
-ghost use Rattle.std.specs.Prelude.{◌≡◌, ◌+◌, ◌-◌, ◌≤◌, ◌<◌, Bool, true, false, IfOk};
-ghost use Rattle.std.specs.Prelude.{MatchOption, length, drop};
+ghost use Rattle.std.specs.Prelude.{◌≡◌, ◌+◌, ◌-◌, ◌≤◌, ◌<◌, Bool, true, false, IfOk, MatchOption, length, drop};
 ghost use Rattle.wat_lexer.specs.Cut.{Closed, FirstUnclosed};
 ghost use Rattle.wat_lexer.specs.Sight.{begins_hidden_group, hidden_count};
 ghost use Rattle.wat_lexer.specs.Token.{tokens_of};
-ghost use Rattle.wat_lexer.specs.View.{toks, placed, AreSkips};
+ghost use Rattle.wat_lexer.specs.View.{entry_tokens, placed, AreSkips};
 
 use crate::hidden::{begins_hidden_group, hidden_count};
 use crate::lexeme::Skips;
@@ -14,12 +13,12 @@ use std::alloc::{AllocError, Global};
 
 /// Stores the skips of the annotation group from index `at` to index `end`.
 fn tell_skip(tokens: &mut Tokens, at: usize, end: usize)
-    requires begins { begins_hidden_group false (toks (drop at tokens.old)) ≡ true }
+    requires begins { begins_hidden_group false (entry_tokens (drop at tokens.old)) ≡ true }
     requires order { at < end }
     requires within { end ≤ length tokens.old }
     requires skips { AreSkips (drop (at + 1) tokens.old) }
-    requires counts { (known : Bool) → begins_hidden_group known (toks (drop at tokens.old)) ≡ true
-        → hidden_count known (toks (drop at tokens.old)) ≡ (end - at) + hidden_count known (toks
+    requires counts { (known : Bool) → begins_hidden_group known (entry_tokens (drop at tokens.old)) ≡ true
+        → hidden_count known (entry_tokens (drop at tokens.old)) ≡ (end - at) + hidden_count known (entry_tokens
         (drop end tokens.old)) }
     ensures same { placed tokens.new ≡ placed tokens.old }
     ensures skips { AreSkips (drop at tokens.new) }

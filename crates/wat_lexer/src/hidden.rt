@@ -1,10 +1,8 @@
 //! Visible tokens. A group is hidden if it begins with an annotation that isn't known.
 
 ghost use Rattle.std.specs.Prelude.{◌≡◌, ◌≤◌, ◌+◌, ◌∷◌, [], length, drop};
-ghost use Rattle.wat_lexer.specs.Sight.{is_standard, begins_hidden_group, hidden_count};
-ghost use Rattle.wat_lexer.specs.Sight.{visible_tokens};
-ghost use Rattle.wat_lexer.specs.View.{view, toks, skip_in_front, AreSkips, VisibleFrom};
-ghost use Rattle.wat_lexer.specs.View.{IsNextVisible, most_items};
+ghost use Rattle.wat_lexer.specs.Sight.{is_standard, begins_hidden_group, hidden_count, visible_tokens};
+ghost use Rattle.wat_lexer.specs.View.{view, entry_tokens, skip_in_front, AreSkips, VisibleFrom, IsNextVisible, most_items};
 
 use crate::token::Token;
 use crate::tokens::Tokens;
@@ -41,7 +39,7 @@ fn begins_hidden(first: Token, second: Token, known: bool) -> bool
 #[inline(always)]
 pub(crate) fn begins_hidden_group(tokens: &Tokens, at: usize, known: bool) -> bool
     requires { at ≤ length tokens.now }
-    ensures value { result ≡ begins_hidden_group known (toks (drop at tokens.now)) }
+    ensures value { result ≡ begins_hidden_group known (entry_tokens (drop at tokens.now)) }
     ensures small { length tokens.now ≤ most_items }
 {
     let count = tokens.len();
@@ -68,19 +66,19 @@ fn skip_in_front(tokens: &Tokens, at: usize, known: bool) -> usize
 
 /// The number of hidden tokens from index `at` up to the first visible token. The time doesn't
 /// depend on this number.
-#[tactic(auto, using(crate::proofs::Skips::hidden_count_none))]
+#[tactic(auto, using(crate::specs::Laws::Hidden::hidden_count_none))]
 #[inline(always)]
 pub(crate) fn hidden_count(tokens: &Tokens, at: usize, known: bool) -> usize
     requires within { at ≤ length tokens.now }
     requires skips { AreSkips (drop at tokens.now) }
-    ensures value { result ≡ hidden_count known (toks (drop at tokens.now)) }
+    ensures value { result ≡ hidden_count known (entry_tokens (drop at tokens.now)) }
     ensures within { at + result ≤ length tokens.now }
     ensures small { length tokens.now ≤ most_items }
-    ensures first { VisibleFrom known (drop result (drop at tokens.now)) (visible_tokens known (toks
+    ensures first { VisibleFrom known (drop result (drop at tokens.now)) (visible_tokens known (entry_tokens
         (drop at tokens.now))) }
-    ensures same { visible_tokens known (toks (drop result (drop at tokens.now))) ≡ visible_tokens
-        known (toks (drop at tokens.now)) }
-    ensures stops { hidden_count known (toks (drop result (drop at tokens.now))) ≡ 0 }
+    ensures same { visible_tokens known (entry_tokens (drop result (drop at tokens.now))) ≡ visible_tokens
+        known (entry_tokens (drop at tokens.now)) }
+    ensures stops { hidden_count known (entry_tokens (drop result (drop at tokens.now))) ≡ 0 }
 {
     if begins_hidden_group(tokens, at, known) {
         skip_in_front(tokens, at, known)

@@ -1,7 +1,6 @@
 //! Example texts with their tokens.
 
-ghost use Rattle.wat_lexer.specs.Rows.{Comments, Strings, QuotedNames, Spoiled, Integers, Values};
-ghost use Rattle.wat_lexer.specs.Rows.{HiddenGroups, Faults, UnclosedGroup};
+ghost use Rattle.wat_lexer.specs.Rows.{Comments, Strings, QuotedNames, Spoiled, Integers, Values, HiddenGroups, Faults, UnclosedGroup};
 
 /// Example texts with their tokens, their hidden groups and their faults. The clauses name only the
 /// definitions. An error that the code and its definition share would show here.

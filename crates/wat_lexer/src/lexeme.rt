@@ -2,8 +2,7 @@
 
 ghost use Rattle.std.specs.Prelude.{◌≡◌, ◌<◌, ◌≤◌, ◌+◌, List, ℕ, length, true, false, IsTrue, ◌↔◌};
 ghost use Rattle.wat_lexer.specs.Token.{Placed, is_open};
-ghost use Rattle.wat_lexer.specs.View.{found_tok, is_annotation_kind, is_word, wide, own_number};
-ghost use Rattle.wat_lexer.specs.View.{FoundFits, HasRoom, WasKept, near_limit, text_limit};
+ghost use Rattle.wat_lexer.specs.View.{found_tok, is_annotation_kind, is_word, wide, own_number, FoundFits, HasRoom, WasKept, near_limit, text_limit};
 
 /// The kind of a stored token: how to read the token from the text, or that it is in the side
 /// table.

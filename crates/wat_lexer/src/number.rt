@@ -1,10 +1,7 @@
 //! Integer literals: their text, their sign and their values.
 
-ghost use Rattle.std.specs.Prelude.{◌≡◌, ◌+◌, ◌-◌, ◌*◌, ◌^◌, ◌≤◌, ◌<◌, IsTrue, IfSome, is_some};
-ghost use Rattle.std.specs.Prelude.{length, drop, pos, neg_ℤ, MatchOption};
-ghost use Rattle.wat_lexer.specs.Number.{number, begins_hex, magnitude, sign_of, without_sign};
-ghost use Rattle.wat_lexer.specs.Number.{is_integer, is_width, up_to, unsigned_value};
-ghost use Rattle.wat_lexer.specs.Number.{twos_complement, signed_value};
+ghost use Rattle.std.specs.Prelude.{◌≡◌, ◌+◌, ◌-◌, ◌*◌, ◌^◌, ◌≤◌, ◌<◌, IsTrue, IfSome, is_some, length, drop, pos, neg_ℤ, MatchOption};
+ghost use Rattle.wat_lexer.specs.Number.{number, begins_hex, magnitude, sign_of, without_sign, is_integer, is_width, up_to, unsigned_value, twos_complement, signed_value};
 
 use crate::string::digit_value;
 

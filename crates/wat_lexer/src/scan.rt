@@ -1,10 +1,8 @@
 //! Where tokens, comments and white space end.
 
-ghost use Rattle.std.specs.Prelude.{◌≡◌, ◌+◌, ◌-◌, ◌≤◌, ◌<◌, true, false, option_map};
-ghost use Rattle.std.specs.Prelude.{IfOk, IfSome, length, drop, slice_range, slice_index};
+ghost use Rattle.std.specs.Prelude.{◌≡◌, ◌+◌, ◌-◌, ◌≤◌, ◌<◌, true, false, option_map, IfOk, IfSome, length, drop, slice_range, slice_index};
 ghost use Rattle.wat_lexer.specs.Bytes.{is_idchar, is_space};
-ghost use Rattle.wat_lexer.specs.Scan.{behind_comment, behind_line, behind_run, behind_spaces};
-ghost use Rattle.wat_lexer.specs.Scan.{all_idchars, Between, RunEndIs};
+ghost use Rattle.wat_lexer.specs.Scan.{behind_comment, behind_line, behind_run, behind_spaces, all_idchars, Between, RunEndIs};
 
 use crate::byte_table::{IDCHARS, IN_COMMENT, IN_LINE, SPACES, is_marked, marked_end};
 use crate::string::string_end;

@@ -9,7 +9,7 @@ pub struct Span {
 }
 
 impl Span {
-    ghost use Rattle.wat_lexer.specs.Place.{offset_of};
+    ghost use Rattle.wat_lexer.specs.Offset.{offset_of};
 
     /// Returns the position at this offset, in bytes.
     pub fn from_offset(offset: usize) -> Span

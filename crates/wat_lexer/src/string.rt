@@ -1,12 +1,9 @@
 //! Strings and their escapes.
 
-ghost use Rattle.std.specs.Prelude.{◌≡◌, ◌+◌, ◌-◌, ◌≤◌, ◌<◌, option_map, IfSome, IsTrue};
-ghost use Rattle.std.specs.Prelude.{MatchOption, None, Some, false, length, drop, encode_utf8};
-ghost use Rattle.std.specs.Prelude.{slice_range, slice_index};
+ghost use Rattle.std.specs.Prelude.{◌≡◌, ◌+◌, ◌-◌, ◌≤◌, ◌<◌, option_map, IfSome, MatchOption, None, Some, false, length, drop, encode_utf8, slice_range, slice_index};
 ghost use Rattle.std.specs.Char.{digit_char, digit_value};
 ghost use Rattle.wat_lexer.specs.Cut.{is_raw, short_escape};
-ghost use Rattle.wat_lexer.specs.Scan.{string_at, rest_at, with_front, spelled, closing, Raw};
-ghost use Rattle.wat_lexer.specs.Scan.{Escape, Digits};
+ghost use Rattle.wat_lexer.specs.Scan.{string_at, rest_at, with_front, spelled, closing, Raw, Escape, Digits};
 
 use crate::byte_table::{DIGIT_VALUES, RAW, marked_end};
 

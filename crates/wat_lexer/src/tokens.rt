@@ -3,9 +3,7 @@
 ghost use Rattle.std.specs.Prelude.{◌≡◌, ◌≤◌, ◌<◌, ◌+◌, true, length, slice_range};
 ghost use Rattle.std.proofs.Math.ListN.{get_or, set};
 ghost use Rattle.wat_lexer.specs.Token.{is_open, is_close, is_annotation};
-ghost use Rattle.wat_lexer.specs.View.{view, tok_at, lies, entries_of, Readable, Word};
-ghost use Rattle.wat_lexer.specs.View.{AllCanBeRead, AllApart, HasSkips, skipping, no_entry, skip};
-ghost use Rattle.wat_lexer.specs.View.{most_items};
+ghost use Rattle.wat_lexer.specs.View.{view, tok_at, lies, entries_of, Readable, Word, AllCanBeRead, AllApart, HasSkips, skipping, no_entry, skip, most_items};
 
 use crate::class::part;
 use crate::lexeme::{Kind, Lexeme, Skips};

@@ -1,21 +1,11 @@
 -- Sample texts as tokens, and the custom sections that are read from them.
-use Rattle.std.proofs.Common.{refl}
 use Rattle.std.specs.Char.{encode_utf8}
+use Rattle.std.specs.Prelude.{refl}
 use Rattle.std.specs.Str.{chars, is_utf8}
-use Rattle.wat_tokens.specs.ManySpells.{many_at, many_reads}
-use Rattle.wat_tokens.specs.Number.{read}
-use Rattle.wat_tokens.specs.Laws.Spelled.{spelled_whole}
-use Rattle.wat_links.specs.Custom.{custom}
-use Rattle.wat_links.specs.Cutting.{cut_subsections, dylink}
-use Rattle.wat_links.specs.Dylink.{sizes, mem_info_entry, names_entry, lone_entry, subsection}
-use Rattle.wat_links.specs.DylinkEntries.{export_entry}
-use Rattle.wat_links.specs.Subsections.{subsections}
-use Rattle.wat_links.specs.Flags.{flag_list, symbol_flags}
-use Rattle.wat_links.specs.FlagBits.{flag_bits}
-use Rattle.wat_links.specs.CustomPlace.{section, after, custom_place}
-use Rattle.wat_links.specs.CustomRows.{Places, Exports, Sizes}
+use Rattle.wat_links.specs.Prelude.{many_at, many_reads, read, spelled_whole, custom, cut_subsections, dylink, sizes, mem_info_entry, names_entry, lone_entry, subsection, export_entry, subsections, flag_list, symbol_flags, flag_bits, section, after, custom_place}
+use Rattle.wat_links.specs.CustomRows.{CustomPlaces, Exports, Sizes}
 
-pub places : Places
+pub places : CustomPlaces
 unfolding custom_place after section
 places = spelled_whole custom_place _ _ refl
 

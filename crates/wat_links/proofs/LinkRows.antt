@@ -1,20 +1,8 @@
 -- Sample texts as tokens, and the imports and exports that are read from them.
-use Rattle.std.proofs.Common.{refl}
 use Rattle.std.specs.Char.{encode_utf8}
+use Rattle.std.specs.Prelude.{refl}
 use Rattle.std.specs.Str.{chars, is_utf8}
-use Rattle.wat_tokens.specs.ManySpells.{many_at, many_reads}
-use Rattle.wat_tokens.specs.NameAnnotation.{name_annotation}
-use Rattle.wat_tokens.specs.Laws.Spelled.{spelled_whole}
-use Rattle.wat_types.specs.Function.{function_groups}
-use Rattle.wat_types.specs.FunctionSpells.{func_groups}
-use Rattle.wat_types.specs.Label.{label}
-use Rattle.wat_types.specs.Use.{type_use}
-use Rattle.wat_links.specs.Export.{inline_export}
-use Rattle.wat_links.specs.InlineName.{inline_name}
-use Rattle.wat_links.specs.Forms.{import_items, imports}
-use Rattle.wat_links.specs.Import.{shared_sig, typed_list, named_list, typed_items, named_items, import_choice}
-use Rattle.wat_links.specs.ImportItem.{named_item}
-use Rattle.wat_links.specs.Item.{exact_use, func_kind, item_sig}
+use Rattle.wat_links.specs.Prelude.{many_at, many_reads, name_annotation, spelled_whole, function_groups, func_groups, label, type_use, inline_export, inline_name, import_items, imports, shared_sig, typed_list, named_list, typed_items, named_items, import_choice, named_item, exact_use, func_kind, item_sig}
 use Rattle.wat_links.specs.LinkRows.{Imports, InlineNames}
 
 pub imports_of_texts : Imports

@@ -1,12 +1,10 @@
 -- Clones of items, one by one.
-use Rattle.std.proofs.Common.{◌≡◌, ◌<◌, ◌+◌, ℕ, false, List, [], ◌∷◌, ◌++◌, length, take, get_or, refl, sym, ap, ◌∙◌, subst, add-one, arith}
-use Rattle.std.specs.Prelude.{map}
+use Rattle.std.proofs.Common.{◌≡◌, ◌<◌, ◌+◌, ℕ, false, List, [], ◌∷◌, ◌++◌, length, take, get_or, refl, sym, ap, ◌∙◌, subst, add-one, arith, map}
 use Rattle.std.proofs.Math.Seq.{take-suc}
-use Rattle.std.proofs.lemmas.List.{map_push}
-use Rattle.wat_tokens.specs.Views.{no_items}
+use Rattle.wat_links.specs.Prelude.{map_push, no_items, HeldName, typed_view, SameAll}
+use Rattle.wat_links.specs.Import.{SameTyped}
 use Rattle.wat_links.specs.declared.item.ItemSig.{ItemSig}
 use Rattle.wat_links.specs.declared.import.ImportGroup1ItemOf.{ImportGroup1ItemOf}
-use Rattle.wat_links.specs.Import.{HeldName, typed_view, SameTyped, SameAll}
 
 abbrev Typed : Type 0
 Typed = ImportGroup1ItemOf HeldName ItemSig

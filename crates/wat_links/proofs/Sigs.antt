@@ -1,8 +1,7 @@
 -- Signatures by number.
-use Rattle.std.proofs.Common.{◌≡◌, ◌+◌, ℕ, zero, suc, [], ◌∷◌, ◌++◌, length, refl, sym, ap}
-use Rattle.std.specs.Prelude.{replicate, slice_get}
+use Rattle.std.proofs.Common.{◌≡◌, ◌+◌, ℕ, zero, suc, [], ◌∷◌, ◌++◌, length, refl, sym, ap, replicate, slice_get}
 use Rattle.std.proofs.lemmas.Option.{slice_get-map}
-use Rattle.std.proofs.lemmas.List.{length-map, replicate-append-replicate}
+use Rattle.std.proofs.lemmas.List.{replicate-append-replicate, length-map}
 use Rattle.wat_links.specs.declared.import.ImportItemsOf.{ImportItemsOf}
 use Rattle.wat_links.specs.declared.import.ImportItemsOf.TheVariants.{Single, Group1, Group2}
 use Rattle.wat_links.specs.Import.{item_sigs, item_count, own_sigs}

@@ -1,14 +1,24 @@
 -- Places of custom sections.
 use Rattle.std.specs.Prelude.{ℕ, List, [], ◌∷◌, codes, refl}
-use Rattle.wat_tokens.specs.Tests.{word_in}
-use Rattle.wat_tokens.specs.Production.{Production}
-use Rattle.wat_tokens.specs.Parts.{one, word, made, where_else, after_word}
-use Rattle.wat_tokens.specs.Test.{at_word}
+use Rattle.wat_types.specs.Prelude.{word_in, Production, one, word, made, where_else, after_word, at_word}
 use Rattle.wat_links.specs.declared.custom_place.CustomPlace.{CustomPlace}
-use Rattle.wat_links.specs.declared.custom_place.CustomPlace.TheVariants.{BeforeFirst, Before, After}
-use Rattle.wat_links.specs.declared.custom_place.CustomPlace.TheVariants.{AfterLast}
+use Rattle.wat_links.specs.declared.custom_place.CustomPlace.TheVariants.{BeforeFirst, Before, After, AfterLast}
 use Rattle.wat_links.specs.declared.custom_place.CustomPlaceAnchor.{CustomPlaceAnchor}
 use Rattle.wat_links.specs.declared.custom_place.CustomPlaceAnchor.TheVariants as anchor
+
+abbrev pub section_word : CustomPlaceAnchor → List ℕ
+section_word anchor.«Type» = codes "type"
+section_word anchor.Import = codes "import"
+section_word anchor.Func = codes "func"
+section_word anchor.Table = codes "table"
+section_word anchor.Memory = codes "memory"
+section_word anchor.Global = codes "global"
+section_word anchor.Export = codes "export"
+section_word anchor.Start = codes "start"
+section_word anchor.Elem = codes "elem"
+section_word anchor.Code = codes "code"
+section_word anchor.Data = codes "data"
+section_word anchor.Tag = codes "tag"
 
 -- the keywords of the known sections
 abbrev pub anchor_words : List (List ℕ × CustomPlaceAnchor)

@@ -1,23 +1,19 @@
 -- Sample texts as tokens, and the custom sections that they spell.
 use Rattle.std.specs.Prelude.{List, [], ◌∷◌, ◌++◌, codes}
-use Rattle.wat_tokens.specs.Token.{Tok, Keyword, Integer, String, Annotation}
-use Rattle.wat_tokens.specs.Spelled.{in_parens, Spelled}
-use Rattle.wat_links.specs.Custom.{linked, custom}
-use Rattle.wat_links.specs.Dylink.{mem_info, needed, export_info}
-use Rattle.wat_links.specs.CustomPlace.{custom_place}
+use Rattle.wat_links.specs.Prelude.{Token, Keyword, Integer, String, Annotation, in_parens, Spelled, linked, custom, mem_info, needed, export_info, custom_place}
 use Rattle.wat_links.specs.declared.custom_place.CustomPlace.TheVariants.{After}
 use Rattle.wat_links.specs.declared.custom_place.CustomPlaceAnchor.TheVariants as anchor
 
 -- `after code`
-abbrev pub Places : Type 0
-Places = Spelled custom_place (Keyword (codes "after") ∷ Keyword (codes "code") ∷ [])
+abbrev pub CustomPlaces : Type 0
+CustomPlaces = Spelled custom_place (Keyword (codes "after") ∷ Keyword (codes "code") ∷ [])
     (After anchor.Code)
 
 -- `(`, a word, tokens, `)`
-abbrev entry_text : List Tok → List Tok → List Tok
+abbrev entry_text : List Token → List Token → List Token
 entry_text w ts = in_parens (w ++ ts)
 
-abbrev export_word : List Tok
+abbrev export_word : List Token
 export_word = Keyword (codes "export-info") ∷ []
 
 -- `@dylink.0 (export-info "a" tls) (export-info "b" 3) (needed "x") (export-info "c")`: adjacent

@@ -1,31 +1,22 @@
 -- The `dylink.0` section.
 use Rattle.std.specs.Prelude.{◌≤◌, ℕ, Bool, true, List, ◌∷◌, codes, map, unwrap_or}
-use Rattle.std.specs.Borrow.{Bor}
 use Rattle.std.proofs.Common.{lit≤}
-use Rattle.wat_tokens.specs.Token.{Tok}
-use Rattle.wat_tokens.specs.Production.{Production}
-use Rattle.wat_tokens.specs.Parts.{seq, made, where_else, opt}
-use Rattle.wat_tokens.specs.Groups.{group}
-use Rattle.wat_tokens.specs.Many.{many}
-use Rattle.wat_tokens.specs.Integers.{unsigned}
-use Rattle.wat_tokens.specs.Strings.{text}
-use Rattle.wat_tokens.specs.Views.{no_items}
-use Rattle.wat_tokens.specs.Test.{at_group, second_word, at_more, Test, run}
+use Rattle.wat_types.specs.Prelude.{Bor, Token, Production, seq, made, where_else, opt, group, many, unsigned, text, no_items, at_group, second_word, at_more, Test, run}
 use Rattle.wat_links.specs.declared.dylink.Dylink0.{Dylink0}
 use Rattle.wat_links.specs.declared.dylink.Dylink0Subsection.{Dylink0Subsection}
-use Rattle.wat_links.specs.declared.dylink.Dylink0Subsection.TheVariants as code
 use Rattle.wat_links.specs.DylinkEntries.{export_entry, import_entry}
 use Rattle.wat_links.specs.Laws.DylinkEntries.{export_entry_consumes, import_entry_consumes}
+use Rattle.wat_links.specs.declared.dylink.Dylink0Subsection.TheVariants as code
 
 -- ---- views
 
-pub data SubsectionTy : Type 0 where
-  mem_info : ℕ → ℕ → ℕ → ℕ → SubsectionTy
-  needed : List (List ℕ) → SubsectionTy
-  export_info : List (List ℕ × ℕ) → SubsectionTy
-  import_info : List (List ℕ × List ℕ × ℕ) → SubsectionTy
-  runtime_path : List (List ℕ) → SubsectionTy
-  target_arch : List ℕ → SubsectionTy
+pub data Dylink0SubsectionModel : Type 0 where
+  mem_info : ℕ → ℕ → ℕ → ℕ → Dylink0SubsectionModel
+  needed : List (List ℕ) → Dylink0SubsectionModel
+  export_info : List (List ℕ × ℕ) → Dylink0SubsectionModel
+  import_info : List (List ℕ × List ℕ × ℕ) → Dylink0SubsectionModel
+  runtime_path : List (List ℕ) → Dylink0SubsectionModel
+  target_arch : List ℕ → Dylink0SubsectionModel
 
 abbrev pub dylink_export_view : Bor (List ℕ) × ℕ → List ℕ × ℕ
 dylink_export_view e = (e.0.now, e.1)
@@ -33,7 +24,7 @@ dylink_export_view e = (e.0.now, e.1)
 abbrev pub dylink_import_view : Bor (List ℕ) × Bor (List ℕ) × ℕ → List ℕ × List ℕ × ℕ
 dylink_import_view e = (e.0.now, e.1.now, e.2)
 
-abbrev pub subsection_view : Dylink0Subsection → SubsectionTy
+abbrev pub subsection_view : Dylink0Subsection → Dylink0SubsectionModel
 subsection_view (code.MemInfo ms ma ts ta) = mem_info ms ma ts ta
 subsection_view (code.Needed xs) = needed (map (λ x. x.now) xs.items)
 subsection_view (code.ExportInfo es) = export_info (map dylink_export_view es.items)
@@ -41,17 +32,17 @@ subsection_view (code.ImportInfo es) = import_info (map dylink_import_view es.it
 subsection_view (code.RuntimePath xs) = runtime_path (map (λ x. x.now) xs.items)
 subsection_view (code.TargetArch x) = target_arch x.now
 
-abbrev pub dylink_view : Dylink0 → List SubsectionTy
+abbrev pub dylink_view : Dylink0 → List Dylink0SubsectionModel
 dylink_view d = map subsection_view d.subsections.items
 
 -- has no name and no entry
-abbrev pub bare_subsection : SubsectionTy → Bool
-bare_subsection (mem_info ms ma ts ta) = true
-bare_subsection (needed xs) = no_items xs
-bare_subsection (export_info es) = no_items es
-bare_subsection (import_info es) = no_items es
-bare_subsection (runtime_path xs) = no_items xs
-bare_subsection (target_arch x) = true
+abbrev pub heapless_subsection : Dylink0SubsectionModel → Bool
+heapless_subsection (mem_info ms ma ts ta) = true
+heapless_subsection (needed xs) = no_items xs
+heapless_subsection (export_info es) = no_items es
+heapless_subsection (import_info es) = no_items es
+heapless_subsection (runtime_path xs) = no_items xs
+heapless_subsection (target_arch x) = true
 
 -- the number of the subsection's kind in a binary module
 abbrev pub id_of : Dylink0Subsection → ℕ
@@ -73,7 +64,7 @@ sizes w = made (λ o. unwrap_or o no_size)
     (opt (second_word w) (group w (seq (unsigned 32) (unsigned 32))))
 
 -- ( mem-info ( memory u32 u32 )? ( table u32 u32 )? )
-unfoldable pub mem_info_entry : Production SubsectionTy
+unfoldable pub mem_info_entry : Production Dylink0SubsectionModel
 mem_info_entry =
     group (codes "mem-info") (made (λ v. mem_info v.0.0 v.0.1 v.1.0 v.1.1)
     (seq (sizes (codes "memory")) (sizes (codes "table"))))
@@ -83,7 +74,7 @@ unfoldable pub names_entry : List ℕ → Production (List (List ℕ))
 names_entry w = group w (many at_more text (lit≤ tt))
 
 -- ( mem-info .. ) | ( needed name* ) | ( runtime-path name* ) | ( target-arch name )
-unfoldable pub lone_entry : Production SubsectionTy
+unfoldable pub lone_entry : Production Dylink0SubsectionModel
 lone_entry =
     where_else (at_group (codes "mem-info")) mem_info_entry
     (where_else (at_group (codes "needed")) (made needed (names_entry (codes "needed")))
@@ -96,13 +87,13 @@ lone_entry =
 abbrev pub at_export : Test
 at_export = at_group (codes "export-info")
 
-abbrev pub begins_export : List Tok → Bool
+abbrev pub begins_export : List Token → Bool
 begins_export t = run at_export t
 
 abbrev pub at_import : Test
 at_import = at_group (codes "import-info")
 
-abbrev pub begins_import : List Tok → Bool
+abbrev pub begins_import : List Token → Bool
 begins_import t = run at_import t
 
 -- an entry, and all entries of the same kind directly after it
@@ -113,7 +104,7 @@ entry_run test g consumes = made (λ v. v.0 ∷ v.1) (seq g (many test g consume
 -- ---- subsections
 
 -- a run of export entries, a run of import entries, or one other entry
-unfoldable pub subsection : Production SubsectionTy
+unfoldable pub subsection : Production Dylink0SubsectionModel
 subsection =
     where_else at_export (made export_info
     (entry_run at_export export_entry export_entry_consumes))

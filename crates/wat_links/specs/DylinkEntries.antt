@@ -1,9 +1,6 @@
 -- Entries of the dylink section: an export, an import.
 use Rattle.std.specs.Prelude.{ℕ, List, codes}
-use Rattle.wat_tokens.specs.Production.{Production}
-use Rattle.wat_tokens.specs.Parts.{seq, made}
-use Rattle.wat_tokens.specs.Groups.{group}
-use Rattle.wat_tokens.specs.Strings.{text}
+use Rattle.wat_types.specs.Prelude.{Production, seq, made, group, text}
 use Rattle.wat_links.specs.Flags.{symbol_flags}
 
 -- ( export-info name flags )

@@ -1,10 +1,6 @@
 -- Flags of symbols in the `dylink.0` section.
 use Rattle.std.specs.Prelude.{ℕ, List, fold}
-use Rattle.std.specs.Int.Bits.{bit_or}
-use Rattle.wat_tokens.specs.Production.{Production}
-use Rattle.wat_tokens.specs.Parts.{made}
-use Rattle.wat_tokens.specs.Many.{many}
-use Rattle.wat_tokens.specs.Test.{at_more}
+use Rattle.wat_types.specs.Prelude.{bit_or, Production, made, many, at_more}
 use Rattle.wat_links.specs.FlagBits.{flag_bits}
 use Rattle.wat_links.specs.Laws.Flags.{flag_bits_consumes}
 

@@ -1,19 +1,8 @@
 -- Imports.
-use Rattle.std.specs.Prelude.{◌≡◌, ℕ, Bool, ◌&&◌, List, [], ◌∷◌, codes, map, is_none}
-use Rattle.std.specs.Prelude.{replicate, length, ⊤, refl}
-use Rattle.std.specs.Borrow.{Bor}
-use Rattle.wat_tokens.specs.Token.{Tok}
-use Rattle.wat_tokens.specs.Production.{Production}
-use Rattle.wat_tokens.specs.Parts.{seq, made, made_where, where_else}
-use Rattle.wat_tokens.specs.Groups.{paren, group}
-use Rattle.wat_tokens.specs.Many.{many}
-use Rattle.wat_tokens.specs.Strings.{text}
-use Rattle.wat_tokens.specs.Views.{no_items}
-use Rattle.wat_tokens.specs.Test.{at_lparen, Test, Question, answer, run, starts}
-use Rattle.wat_tokens.specs.Test.{either_test, test_of, at_more, at_ends, second_word}
+use Rattle.std.specs.Prelude.{◌≡◌, ℕ, Bool, ◌&&◌, List, [], ◌∷◌, codes, map, is_none, replicate, length, ⊤, refl}
+use Rattle.wat_types.specs.Prelude.{Bor, Token, Production, seq, made, made_where, where_else, paren, group, many, text, no_items, at_lparen, Test, Question, answer, run, starts, either_test, test_of, at_more, at_ends, second_word, a_word, a_lparen, a_string, a_rparen}
 use Rattle.wat_tokens.specs.Test.{in_order}
-use Rattle.wat_tokens.specs.Kind.{a_word, a_lparen, a_string, a_rparen}
-use Rattle.wat_links.specs.Item.{SigTy, sig_view, bare_sig, item_sig, SameSig}
+use Rattle.wat_links.specs.Item.{ItemSigModel, sig_view, heapless_sig, item_sig, SameSig}
 use Rattle.wat_links.specs.declared.item.ItemSig.{ItemSig}
 use Rattle.wat_links.specs.declared.import.ImportGroup1ItemOf.{ImportGroup1ItemOf}
 use Rattle.wat_links.specs.declared.import.ImportGroup2ItemOf.{ImportGroup2ItemOf}
@@ -27,17 +16,17 @@ use Rattle.wat_links.specs.Laws.Import.{typed_item_consumes, named_item_consumes
 -- ---- views
 
 -- a name and its signature; names, each with its signature; names that share a signature
-pub data ItemsTy : Type 0 where
-  single : List ℕ → SigTy → ItemsTy
-  group1 : List (List ℕ × SigTy) → ItemsTy
-  group2 : SigTy → List (List ℕ) → ItemsTy
+pub data ImportItemsModel : Type 0 where
+  single : List ℕ → ItemSigModel → ImportItemsModel
+  group1 : List (List ℕ × ItemSigModel) → ImportItemsModel
+  group2 : ItemSigModel → List (List ℕ) → ImportItemsModel
 
 -- the imported items, and the name of the module
-pub record ImportsTy : Type 0 where
+pub record ImportsModel : Type 0 where
   pub from : List ℕ
-  pub items : ItemsTy
+  pub items : ImportItemsModel
 
-abbrev pub imports_of : List ℕ → ItemsTy → ImportsTy
+abbrev pub imports_of : List ℕ → ImportItemsModel → ImportsModel
 imports_of m i = record { from = m; items = i }
 
 -- a name, and the value that contains it
@@ -49,28 +38,28 @@ module_of (Single m n s) = m
 module_of (Group1 m xs) = m
 module_of (Group2 m s xs) = m
 
-abbrev pub typed_view : ImportGroup1ItemOf HeldName ItemSig → List ℕ × SigTy
+abbrev pub typed_view : ImportGroup1ItemOf HeldName ItemSig → List ℕ × ItemSigModel
 typed_view x = (x.name.now, sig_view x.sig)
 
 abbrev pub named_view : ImportGroup2ItemOf HeldName → List ℕ
 named_view x = x.name.now
 
-abbrev pub items_view : ImportItemsOf HeldName ItemSig → ItemsTy
+abbrev pub items_view : ImportItemsOf HeldName ItemSig → ImportItemsModel
 items_view (Single m n s) = single n.now (sig_view s)
 items_view (Group1 m xs) = group1 (map typed_view xs.items)
 items_view (Group2 m s xs) = group2 (sig_view s) (map named_view xs.items)
 
-abbrev pub imports_view : ImportsOf HeldName ItemSig → ImportsTy
+abbrev pub imports_view : ImportsOf HeldName ItemSig → ImportsModel
 imports_view i = imports_of (module_of i.items).now (items_view i.items)
 
 -- has no item in a group, and no inline parameter or result
-abbrev pub bare_items : ItemsTy → Bool
-bare_items (single n s) = bare_sig s
-bare_items (group1 xs) = no_items xs
-bare_items (group2 s xs) = no_items xs && bare_sig s
+abbrev pub heapless_items : ImportItemsModel → Bool
+heapless_items (single n s) = heapless_sig s
+heapless_items (group1 xs) = no_items xs
+heapless_items (group2 s xs) = no_items xs && heapless_sig s
 
-abbrev pub bare_imports : ImportsTy → Bool
-bare_imports i = bare_items i.items
+abbrev pub heapless_imports : ImportsModel → Bool
+heapless_imports i = heapless_items i.items
 
 -- ---- the grammar
 
@@ -78,49 +67,49 @@ bare_imports i = bare_items i.items
 abbrev pub at_item : Test
 at_item = second_word (codes "item")
 
-abbrev pub item_follows : List Tok → Bool
+abbrev pub item_follows : List Token → Bool
 item_follows t = run at_item t
 
 -- the signature shared by a group, without an identifier
-unfoldable pub shared_sig : Production SigTy
+unfoldable pub shared_sig : Production ItemSigModel
 shared_sig = paren (made_where (λ s. is_none s.label.id) (λ s. s) item_sig)
 
 -- name ( ItemSig )
-unfoldable pub single_item : Production ItemsTy
+unfoldable pub single_item : Production ImportItemsModel
 single_item = made (λ v. single v.0 v.1) (seq text sig_group)
 
 -- ( item name ( ItemSig ) )*, as long as an item has to follow
-unfoldable pub typed_list : Production (List (List ℕ × SigTy))
+unfoldable pub typed_list : Production (List (List ℕ × ItemSigModel))
 typed_list = many at_item typed_item typed_item_consumes
 
 -- ( item name )*, as long as an item has to follow
 unfoldable pub named_list : Production (List (List ℕ))
 named_list = many at_item named_item named_item_consumes
 
-unfoldable pub typed_items : Production ItemsTy
+unfoldable pub typed_items : Production ImportItemsModel
 typed_items = made group1 typed_list
 
 -- items without signatures, and their shared signature
-unfoldable pub named_items : Production ItemsTy
+unfoldable pub named_items : Production ImportItemsModel
 named_items = made (λ v. group2 v.1 v.0) (seq named_list shared_sig)
 
 -- `(`, `item`, a string, and then a token other than `)`
 abbrev pub opening_typed : Question
 opening_typed = in_order (a_lparen ∷ a_word (codes "item") ∷ a_string ∷ []) at_more.asks
 
-abbrev pub opens_typed : List Tok → Bool
+abbrev pub opens_typed : List Token → Bool
 opens_typed t = answer opening_typed t
 
 -- the group or the text ends, or the next item has more than a name
 abbrev pub at_typed : Test
 at_typed = either_test at_ends (test_of opening_typed refl)
 
-abbrev pub typed : List Tok → Bool
+abbrev pub typed : List Token → Bool
 typed t = run at_typed t
 
 -- items with signatures if the group or the text ends or the next item has more than a name; items
 -- without signatures and their shared signature if another `(` is next; else a single item
-unfoldable pub import_choice : Production ItemsTy
+unfoldable pub import_choice : Production ImportItemsModel
 import_choice = where_else at_typed typed_items (where_else at_lparen named_items single_item)
 
 -- ---- signatures by number
@@ -179,5 +168,5 @@ at_inline_import =
     test_of (in_order (a_lparen ∷ a_word (codes "import") ∷ a_string ∷ a_string ∷ [])
     (starts a_rparen)) refl
 
-abbrev pub begins_inline_import : List Tok → Bool
+abbrev pub begins_inline_import : List Token → Bool
 begins_inline_import t = run at_inline_import t

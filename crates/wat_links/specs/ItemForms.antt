@@ -1,11 +1,7 @@
 -- Which tokens spell the items of an import: three forms.
 use Rattle.std.specs.Prelude.{◌≡◌, true, false, List, [], ◌∷◌}
-use Rattle.wat_tokens.specs.Token.{Tok}
-use Rattle.wat_tokens.specs.Tests.{ends}
-use Rattle.wat_tokens.specs.Parts.{seq}
-use Rattle.wat_tokens.specs.Strings.{text}
-use Rattle.wat_links.specs.Import.{ItemsTy, single, group1, group2, item_follows, typed_list}
-use Rattle.wat_links.specs.Import.{named_list, shared_sig}
+use Rattle.wat_types.specs.Prelude.{Token, ends, seq, text}
+use Rattle.wat_links.specs.Import.{ImportItemsModel, single, group1, group2, item_follows, typed_list, named_list, shared_sig}
 use Rattle.wat_links.specs.ImportItem.{sig_group}
 
 -- single: a name and ( ItemSig ).
@@ -13,7 +9,7 @@ use Rattle.wat_links.specs.ImportItem.{sig_group}
 -- text ends next.
 -- group2: any number of items, each ( item name ), and then ( ItemSig ) without an identifier.
 -- One more item follows as long as the second token is `item`, for any first token.
-abbrev pub ItemsSpells : ItemsTy → List Tok → List Tok → Type 0
+abbrev pub ItemsSpells : ImportItemsModel → List Token → List Token → Type 0
 ItemsSpells (single n s) c r = (seq text sig_group).spells (n, s) c r
 ItemsSpells (group1 []) c r = (c ≡ []) × (item_follows r ≡ false) × (ends r ≡ true)
 ItemsSpells (group1 (x ∷ xs)) c r = typed_list.spells (x ∷ xs) c r

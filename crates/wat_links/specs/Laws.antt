@@ -6,6 +6,7 @@ pub mod Export
 pub mod Flags
 pub mod Forms
 pub mod Import
+pub mod Named
 pub mod NoImport
 pub mod Producers
 pub mod Subsections

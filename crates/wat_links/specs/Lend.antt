@@ -1,12 +1,11 @@
 -- References to signatures, lent by imports.
 use Rattle.std.specs.contracts.vec.Vec.{the_row as vec-row}
 use Rattle.std.specs.contracts.alloc.Global.{the_row as global}
+use Rattle.std.specs.Prelude.{ℕ, zero, suc, Option, Some, None, List, slice_get}
 use Rattle.std.specs.contracts.impls.GlobalAllocator.TheImpl.{ghosts}
 use Rattle.std.specs.declared.vec.Vec.{Vec}
-use Rattle.std.specs.Prelude.{ℕ, zero, suc, Option, Some, None, List, slice_get}
-use Rattle.std.specs.Borrow.{LendsIf, MutBor, Fml, RattleType}
-use Rattle.std.specs.Option.{option_map}
 use Rattle.std.specs.Vec.{with_item}
+use Rattle.wat_types.specs.Prelude.{option_map, LendsIf, MutBor, Fml, RattleType}
 use Rattle.wat_links.specs.declared.import.ImportGroup1ItemOf.{ImportGroup1ItemOf}
 use Rattle.wat_links.specs.declared.import.ImportItemsOf.{ImportItemsOf}
 use Rattle.wat_links.specs.declared.import.ImportItemsOf.TheVariants.{Single, Group1, Group2}

@@ -30,3 +30,4 @@ pub mod ProducerEntry
 pub mod Producers
 pub mod Raw
 pub mod Subsections
+pub mod Prelude

@@ -1,20 +1,14 @@
 -- Sample texts as tokens, and the imports and exports that they spell.
 use Rattle.std.specs.Prelude.{List, [], ◌∷◌, ◌++◌, codes, None}
-use Rattle.wat_tokens.specs.Token.{Tok, Keyword, Integer, String}
+use Rattle.wat_links.specs.Prelude.{Token, Keyword, Integer, String, in_parens, Spelled, no_label, use_of, inline_export, imports, imports_of, group1, group2, ItemSigModel}
+use Rattle.wat_links.specs.Item.{sig_of, func}
 use Rattle.wat_tokens.specs.Production.{Front}
-use Rattle.wat_tokens.specs.Spelled.{in_parens, Spelled}
-use Rattle.wat_types.specs.Label.{no_label}
-use Rattle.wat_types.specs.Use.{use_of}
-use Rattle.wat_links.specs.Export.{inline_export}
-use Rattle.wat_links.specs.Forms.{imports}
-use Rattle.wat_links.specs.Import.{imports_of, group1, group2}
-use Rattle.wat_links.specs.Item.{SigTy, sig_of, func}
 
 -- `(func)`
-abbrev lone_func : List Tok
+abbrev lone_func : List Token
 lone_func = in_parens (Keyword (codes "func") ∷ [])
 
-abbrev any_func : SigTy
+abbrev any_func : ItemSigModel
 any_func = sig_of no_label (func (use_of None None))
 
 -- `import "m"` has no items; `import "m" (func)` has a signature and no items; `import "m" (item
@@ -30,7 +24,7 @@ Imports =
     ++ (in_parens (Keyword (codes "item") ∷ String (codes "b") ∷ []) ++ lone_func)))
     (imports_of (codes "m") (group2 any_func (codes "a" ∷ codes "b" ∷ [])))
 
-abbrev no_name : List Tok
+abbrev no_name : List Token
 no_name = in_parens (Keyword (codes "export") ∷ Integer (codes "1") ∷ [])
 
 -- `(export "a") (export "b") (export 1)`: two names, and the third group is left

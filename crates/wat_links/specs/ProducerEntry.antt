@@ -1,10 +1,6 @@
 -- One entry of the `producers` section.
 use Rattle.std.specs.Prelude.{ℕ, List, [], ◌∷◌, codes, refl}
-use Rattle.wat_tokens.specs.Tests.{word_in}
-use Rattle.wat_tokens.specs.Production.{Production}
-use Rattle.wat_tokens.specs.Parts.{one, seq}
-use Rattle.wat_tokens.specs.Groups.{paren}
-use Rattle.wat_tokens.specs.Strings.{text}
+use Rattle.wat_types.specs.Prelude.{word_in, Production, one, seq, paren, text}
 use Rattle.wat_links.specs.declared.producers.Field.{Field}
 use Rattle.wat_links.specs.declared.producers.Field.TheVariants.{Language, Sdk, ProcessedBy}
 
@@ -18,13 +14,13 @@ abbrev pub Versioned : Type 0
 Versioned = List ℕ × List ℕ
 
 -- the field of an entry, its name and its version
-abbrev pub ProducerTy : Type 0
-ProducerTy = Field × Versioned
+abbrev pub ProducerEntryModel : Type 0
+ProducerEntryModel = Field × Versioned
 
 -- the keyword of a field
 unfoldable pub field_word : Production Field
 field_word = one (word_in field_words) (refl, refl)
 
 -- ( `language` | `sdk` | `processed-by` , name version )
-unfoldable pub producer_entry : Production ProducerTy
+unfoldable pub producer_entry : Production ProducerEntryModel
 producer_entry = paren (seq field_word (seq text text))

@@ -1,15 +1,11 @@
 -- The `producers` section.
 use Rattle.std.specs.Prelude.{ℕ, Bool, true, false, List, [], ◌∷◌, ◌++◌, codes, map, filter}
-use Rattle.std.specs.Borrow.{Bor}
-use Rattle.wat_tokens.specs.Production.{Production}
-use Rattle.wat_tokens.specs.Parts.{made, annotation}
-use Rattle.wat_tokens.specs.Many.{many}
-use Rattle.wat_tokens.specs.Test.{at_more}
+use Rattle.wat_types.specs.Prelude.{Bor, Production, made, annotation, many, at_more}
 use Rattle.wat_links.specs.declared.producers.Field.{Field}
 use Rattle.wat_links.specs.declared.producers.Field.TheVariants.{Language, Sdk, ProcessedBy}
 use Rattle.wat_links.specs.declared.producers.ProducerEntry.{ProducerEntry}
 use Rattle.wat_links.specs.declared.producers.Producers.{Producers}
-use Rattle.wat_links.specs.ProducerEntry.{ProducerTy, producer_entry, Versioned}
+use Rattle.wat_links.specs.ProducerEntry.{ProducerEntryModel, producer_entry, Versioned}
 use Rattle.wat_links.specs.Laws.Producers.{producer_entry_consumes}
 
 -- ---- entries
@@ -25,17 +21,17 @@ same_field Sdk Sdk = true
 same_field ProcessedBy ProcessedBy = true
 same_field _ _ = false
 
-abbrev pub entry_view : ProducerEntry → ProducerTy
+abbrev pub entry_view : ProducerEntry → ProducerEntryModel
 entry_view e = (e.field, (e.name.now, e.version.now))
 
 -- entries, to the end of the group
-unfoldable pub producer_entries : Production (List ProducerTy)
+unfoldable pub producer_entries : Production (List ProducerEntryModel)
 producer_entries = many at_more producer_entry producer_entry_consumes
 
 -- ---- fields
 
 -- the entries of the field, in order
-abbrev pub field_entries : Field → List ProducerTy → List Versioned
+abbrev pub field_entries : Field → List ProducerEntryModel → List Versioned
 field_entries f es = map (λ e. e.1) (filter (λ e. same_field e.0 f) es)
 
 -- a field with its entries, if the field has entries
@@ -43,11 +39,11 @@ abbrev pub with_entries : List ℕ → List Versioned → List (List ℕ × List
 with_entries w [] = []
 with_entries w (x ∷ xs) = (w, x ∷ xs) ∷ []
 
-abbrev pub field_with_entries : Field → List ProducerTy → List (List ℕ × List Versioned)
+abbrev pub field_with_entries : Field → List ProducerEntryModel → List (List ℕ × List Versioned)
 field_with_entries f es = with_entries (word_of f) (field_entries f es)
 
 -- the three fields in this order, each with its entries; fields without entries are left out
-abbrev pub fields_of : List ProducerTy → List (List ℕ × List Versioned)
+abbrev pub fields_of : List ProducerEntryModel → List (List ℕ × List Versioned)
 fields_of es =
     (field_with_entries Language es ++ field_with_entries Sdk es)
     ++ field_with_entries ProcessedBy es
@@ -56,7 +52,7 @@ fields_of es =
 abbrev pub names_view : List (Bor (List ℕ) × Bor (List ℕ)) → List Versioned
 names_view xs = map (λ x. (x.0.now, x.1.now)) xs
 
-abbrev pub entries_view : List ProducerEntry → List ProducerTy
+abbrev pub entries_view : List ProducerEntry → List ProducerEntryModel
 entries_view es = map entry_view es
 
 abbrev pub producers_view : Producers → List (List ℕ × List Versioned)

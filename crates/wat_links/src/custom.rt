@@ -2,8 +2,7 @@
 
 ghost use Rattle.std.specs.Prelude.{◌≡◌};
 ghost use Rattle.wat_tokens.specs.Views.{owning};
-ghost use Rattle.wat_links.specs.Custom.{CustomTy, custom_view, bare_custom, place_of};
-ghost use Rattle.wat_links.specs.Custom.{custom_name, begins_annotated, custom};
+ghost use Rattle.wat_links.specs.Custom.{CustomModel, custom_view, heapless_custom, place_of, custom_name, begins_annotated, custom};
 
 use crate::custom_place::CustomPlace;
 use crate::dylink::Dylink0;
@@ -61,9 +60,9 @@ fn annotation_next(parser: &Parser<'_>, name: &str) -> bool
 /// `@producers`, a [`Dylink0`] if it is `@dylink.0`, and otherwise a [`RawCustomSection`], which
 /// begins with `@custom`. The annotation has to be known to the parser.
 impl<'a> Parse<'a> for Custom<'a> {
-    ghost View = { CustomTy };
+    ghost View = { CustomModel };
 
-    ghost view = { owning custom_view bare_custom };
+    ghost view = { owning custom_view heapless_custom };
 
     ghost grammar = { custom };
 

@@ -1,8 +1,8 @@
 //! Places of custom sections.
 
-ghost use Rattle.wat_links.specs.CustomPlace.{anchor_words, before, after};
-ghost use Rattle.wat_tokens.specs.Reads.{Reads};
-ghost use Rattle.wat_tokens.specs.Views.{plain};
+ghost use Rattle.wat_types.specs.Prelude.{Reads, plain};
+ghost use Rattle.wat_links.specs.CustomPlace.{anchor_words, before, after, section_word};
+ghost use Rattle.wat_links.specs.Laws.Named.{section_is_named};
 
 use wat_tokens::words::{NamedByKeyword, take_named};
 use wat_tokens::{Parse, Parser, Result};
@@ -55,6 +55,10 @@ pub enum CustomPlaceAnchor {
 impl NamedByKeyword for CustomPlaceAnchor {
     ghost words = { anchor_words };
 
+    ghost keyword = { section_word };
+
+    ghost is_named = { section_is_named };
+
     fn named(word: &str) -> Option<Self> {
         match word {
             "type" => Some(CustomPlaceAnchor::Type),
@@ -70,6 +74,23 @@ impl NamedByKeyword for CustomPlaceAnchor {
             "data" => Some(CustomPlaceAnchor::Data),
             "tag" => Some(CustomPlaceAnchor::Tag),
             _ => None,
+        }
+    }
+
+    fn word(self) -> &'static str {
+        match self {
+            CustomPlaceAnchor::Type => "type",
+            CustomPlaceAnchor::Import => "import",
+            CustomPlaceAnchor::Func => "func",
+            CustomPlaceAnchor::Table => "table",
+            CustomPlaceAnchor::Memory => "memory",
+            CustomPlaceAnchor::Global => "global",
+            CustomPlaceAnchor::Export => "export",
+            CustomPlaceAnchor::Start => "start",
+            CustomPlaceAnchor::Elem => "elem",
+            CustomPlaceAnchor::Code => "code",
+            CustomPlaceAnchor::Data => "data",
+            CustomPlaceAnchor::Tag => "tag",
         }
     }
 }

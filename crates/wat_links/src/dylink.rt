@@ -1,15 +1,8 @@
 //! The `dylink.0` section.
 
 ghost use Rattle.std.specs.Prelude.{◌≡◌, ℕ, List, map};
-ghost use Rattle.wat_tokens.specs.Reads.{Reads};
-ghost use Rattle.wat_tokens.specs.Tests.{more};
-ghost use Rattle.wat_tokens.specs.Views.{plain, owning, no_items};
-ghost use Rattle.wat_links.specs.Dylink.{SubsectionTy, dylink_export_view, dylink_import_view};
-ghost use Rattle.wat_links.specs.Dylink.{subsection_view};
-ghost use Rattle.wat_links.specs.Dylink.{dylink_view, bare_subsection, id_of, sizes};
-ghost use Rattle.wat_links.specs.Dylink.{mem_info_entry, names_entry, lone_entry, begins_export};
-ghost use Rattle.wat_links.specs.Dylink.{begins_import, entry_run, subsection, at_export};
-ghost use Rattle.wat_links.specs.Dylink.{at_import};
+ghost use Rattle.wat_types.specs.Prelude.{Reads, more, plain, owning, no_items};
+ghost use Rattle.wat_links.specs.Dylink.{Dylink0SubsectionModel, dylink_export_view, dylink_import_view, subsection_view, dylink_view, heapless_subsection, id_of, sizes, mem_info_entry, names_entry, lone_entry, begins_export, begins_import, entry_run, subsection, at_export, at_import};
 ghost use Rattle.wat_links.specs.DylinkEntries.{export_entry, import_entry};
 ghost use Rattle.wat_links.specs.Laws.DylinkEntries.{export_entry_consumes, import_entry_consumes};
 ghost use Rattle.wat_links.specs.Cutting.{dylink};
@@ -122,7 +115,7 @@ fn read_names<'a>(parser: &mut Parser<'a>, word: &str) -> Result<Vec<&'a str>>
 /// Reads an entry that is neither an export entry nor an import entry.
 #[tactic(auto, unfolding(crate::specs::Dylink::lone_entry))]
 fn read_lone<'a>(parser: &mut Parser<'a>) -> Result<Dylink0Subsection<'a>>
-    ensures reads { Reads (owning subsection_view bare_subsection) lone_entry result parser.old
+    ensures reads { Reads (owning subsection_view heapless_subsection) lone_entry result parser.old
         parser.new }
 {
     if parser.group_is("mem-info") {
@@ -220,9 +213,9 @@ fn read_imports<'a>(parser: &mut Parser<'a>) -> Result<Vec<(&'a str, &'a str, u3
 struct Subsection;
 
 impl<'a> Part<'a, Dylink0Subsection<'a>> for Subsection {
-    ghost View = { SubsectionTy };
+    ghost View = { Dylink0SubsectionModel };
 
-    ghost view = { owning subsection_view bare_subsection };
+    ghost view = { owning subsection_view heapless_subsection };
 
     ghost grammar = { subsection };
 
@@ -256,7 +249,7 @@ impl<'a> Part<'a, Dylink0Subsection<'a>> for Subsection {
 /// Flags are 32-bit numbers and keywords, joined by bitwise or. Returns Unexpected, at the keyword,
 /// if a keyword is unknown.
 impl<'a> Parse<'a> for Dylink0<'a> {
-    ghost View = { List SubsectionTy };
+    ghost View = { List Dylink0SubsectionModel };
 
     ghost view = { owning dylink_view no_items };
 

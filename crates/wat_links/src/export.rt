@@ -1,16 +1,11 @@
 //! Exports.
 
 ghost use Rattle.std.specs.Prelude.{◌≡◌, ℕ, [], List};
-ghost use Rattle.wat_tokens.specs.Copies.{Copies};
-ghost use Rattle.wat_tokens.specs.Lookup.{in_front};
-ghost use Rattle.wat_tokens.specs.Views.{plain, owning, no_items};
+ghost use Rattle.wat_types.specs.Prelude.{Copies, in_front, plain, owning, no_items};
 ghost use Rattle.wat_links.specs.Item.{SameSig};
-ghost use Rattle.wat_links.specs.Export.{kind_words, export_kind, ExportTy};
-ghost use Rattle.wat_links.specs.Export.{export_view, export_, ExportTypeTy, export_type_view};
-ghost use Rattle.wat_links.specs.Export.{bare_export_type, export_type, inline_export_view};
-ghost use Rattle.wat_links.specs.Export.{begins_inline_export, inline_export, at_inline_export};
-ghost use Rattle.wat_links.specs.Export.{at_export_kind};
+ghost use Rattle.wat_links.specs.Export.{kind_words, export_kind, ExportModel, export_view, export_, ExportTypeModel, export_type_view, heapless_export_type, export_type, inline_export_view, begins_inline_export, inline_export, at_inline_export, at_export_kind, export_kind_word};
 ghost use Rattle.wat_links.specs.InlineName.{inline_name};
+ghost use Rattle.wat_links.specs.Laws.Named.{kind_is_named};
 
 use crate::item::ItemSig;
 use std::alloc::Global;
@@ -71,6 +66,10 @@ pub struct InlineExport<'a> {
 impl NamedByKeyword for ExportKind {
     ghost words = { kind_words };
 
+    ghost keyword = { export_kind_word };
+
+    ghost is_named = { kind_is_named };
+
     fn named(word: &str) -> Option<Self> {
         match word {
             "func" => Some(ExportKind::Func),
@@ -79,6 +78,16 @@ impl NamedByKeyword for ExportKind {
             "global" => Some(ExportKind::Global),
             "tag" => Some(ExportKind::Tag),
             _ => None,
+        }
+    }
+
+    fn word(self) -> &'static str {
+        match self {
+            ExportKind::Func => "func",
+            ExportKind::Table => "table",
+            ExportKind::Memory => "memory",
+            ExportKind::Global => "global",
+            ExportKind::Tag => "tag",
         }
     }
 }
@@ -171,7 +180,7 @@ impl From<kw::tag> for ExportKind {
 
 /// Reads `export`, a name, and an [`ExportKind`] and an index in parentheses.
 impl<'a> Parse<'a> for Export<'a> {
-    ghost View = { ExportTy };
+    ghost View = { ExportModel };
 
     ghost view = { plain export_view };
 
@@ -199,7 +208,7 @@ impl<'a> ExportType<'a> {
     /// inline parameter or result.
     pub fn clone(&self) -> Result<ExportType<'a>>
         ensures copies { Copies (λ x y. (y.span ≡ x.span) × (y.name ≡ x.name) ×
-            (SameSig x.item y.item)) (owning export_type_view bare_export_type) result self.now }
+            (SameSig x.item y.item)) (owning export_type_view heapless_export_type) result self.now }
     {
         Ok(ExportType {
             span: self.span,
@@ -211,9 +220,9 @@ impl<'a> ExportType<'a> {
 
 /// Reads `export`, a name, and an [`ItemSig`] in parentheses.
 impl<'a> Parse<'a> for ExportType<'a> {
-    ghost View = { ExportTypeTy };
+    ghost View = { ExportTypeModel };
 
-    ghost view = { owning export_type_view bare_export_type };
+    ghost view = { owning export_type_view heapless_export_type };
 
     ghost grammar = { export_type };
 

@@ -1,6 +1,6 @@
 //! Heads of fields: a label and inline exports.
 
-ghost use Rattle.wat_links.specs.FieldHead.{FieldHeadTy, head_view, bare_head, head};
+ghost use Rattle.wat_links.specs.FieldHead.{FieldHeadModel, head_view, heapless_head, head};
 ghost use Rattle.wat_tokens.specs.Views.{owning};
 
 use crate::export::InlineExport;
@@ -21,9 +21,9 @@ pub struct FieldHead<'a> {
 
 /// Reads an optional identifier, an optional name annotation, and an [`InlineExport`].
 impl<'a> Parse<'a> for FieldHead<'a> {
-    ghost View = { FieldHeadTy };
+    ghost View = { FieldHeadModel };
 
-    ghost view = { owning head_view bare_head };
+    ghost view = { owning head_view heapless_head };
 
     ghost grammar = { head };
 

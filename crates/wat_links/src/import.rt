@@ -1,22 +1,10 @@
 //! Imports.
 
-ghost use Rattle.std.specs.Prelude.{◌≡◌, ℕ, true, List, map, length, replicate};
-ghost use Rattle.std.specs.Prelude.{slice_get, ◌<◌, IfOk, IfErr};
-ghost use Rattle.std.specs.Borrow.{sem};
-ghost use Rattle.std.specs.Option.{option_map};
-ghost use Rattle.wat_tokens.specs.Copies.{Copies};
-ghost use Rattle.wat_tokens.specs.Lookup.{in_front};
-ghost use Rattle.wat_tokens.specs.Reads.{Reads};
-ghost use Rattle.wat_tokens.specs.Views.{plain, owning, no_items};
-ghost use Rattle.wat_links.specs.Item.{SigTy, sig_view, bare_sig};
+ghost use Rattle.std.specs.Prelude.{◌≡◌, ℕ, true, List, map, length, replicate, slice_get, ◌<◌, IfOk, IfErr};
+ghost use Rattle.wat_types.specs.Prelude.{option_map, sem, Copies, in_front, Reads, plain, owning, no_items};
+ghost use Rattle.wat_links.specs.Item.{ItemSigModel, sig_view, heapless_sig};
 ghost use Rattle.wat_links.specs.Forms.{import_items, imports};
-ghost use Rattle.wat_links.specs.Import.{ImportsTy, module_of, typed_view, named_view};
-ghost use Rattle.wat_links.specs.Import.{items_view, imports_view, bare_items, bare_imports};
-ghost use Rattle.wat_links.specs.Import.{item_follows, shared_sig, single_item, typed_items};
-ghost use Rattle.wat_links.specs.Import.{named_items, opens_typed, typed, item_sigs, item_count};
-ghost use Rattle.wat_links.specs.Import.{own_sigs, SameTyped, SameAll, SameItems};
-ghost use Rattle.wat_links.specs.Import.{inline_import_view, inline_import, begins_inline_import};
-ghost use Rattle.wat_links.specs.Import.{at_inline_import};
+ghost use Rattle.wat_links.specs.Import.{ImportsModel, module_of, typed_view, named_view, items_view, imports_view, heapless_items, heapless_imports, item_follows, shared_sig, single_item, typed_items, named_items, opens_typed, typed, item_sigs, item_count, own_sigs, SameTyped, SameAll, SameItems, inline_import_view, inline_import, begins_inline_import, at_inline_import};
 ghost use Rattle.wat_links.specs.ImportItem.{typed_item, named_item};
 ghost use Rattle.wat_links.specs.Lend.{typed_sig_at, sig_at, LendsTyped, LendsItems, LendsImports};
 
@@ -229,7 +217,8 @@ impl<'a> ImportGroup1Item<'a> {
     /// Returns a copy of the item. Returns the error Memory only if the signature has an inline
     /// parameter or result.
     pub fn clone(&self) -> Result<ImportGroup1Item<'a>>
-        ensures copies { Copies SameTyped (owning typed_view (λ t. bare_sig t.1)) result self.now }
+        ensures copies { Copies SameTyped (owning typed_view (λ t. heapless_sig t.1)) result
+            self.now }
     {
         Ok(ImportGroup1ItemOf {
             span: self.span,
@@ -268,7 +257,7 @@ impl<'a> ImportItems<'a> {
     /// Returns a copy of the items. Returns the error Memory only if an item is in a group, or a
     /// signature has an inline parameter or result.
     pub fn clone(&self) -> Result<ImportItems<'a>>
-        ensures copies { Copies SameItems (owning items_view bare_items) result self.now }
+        ensures copies { Copies SameItems (owning items_view heapless_items) result self.now }
     {
         match self {
             ImportItemsOf::Single { module, name, sig } => Ok(ImportItemsOf::Single {
@@ -294,7 +283,7 @@ impl<'a> Imports<'a> {
     /// signature has an inline parameter or result.
     pub fn clone(&self) -> Result<Imports<'a>>
         ensures copies { Copies (λ x y. (y.span ≡ x.span) × (SameItems x.items y.items))
-            (owning imports_view bare_imports) result self.now }
+            (owning imports_view heapless_imports) result self.now }
     {
         Ok(ImportsOf {
             span: self.span,
@@ -307,9 +296,9 @@ impl<'a> Imports<'a> {
 struct TypedItem;
 
 impl<'a> Part<'a, ImportGroup1Item<'a>> for TypedItem {
-    ghost View = { List ℕ × SigTy };
+    ghost View = { List ℕ × ItemSigModel };
 
-    ghost view = { owning typed_view (λ x. bare_sig x.1) };
+    ghost view = { owning typed_view (λ x. heapless_sig x.1) };
 
     ghost grammar = { typed_item };
 
@@ -376,7 +365,7 @@ impl<'a> Part<'a, ImportGroup2Item<'a>> for NamedItem {
 /// has an identifier and a `)` or the end of the text follows the signature.
 #[tactic(auto, using(crate::proofs::Ends::closes_none), unfolding(crate::specs::Import::shared_sig))]
 fn read_shared_sig<'a>(parser: &mut Parser<'a>) -> Result<ItemSig<'a>>
-    ensures reads { Reads (owning sig_view bare_sig) shared_sig result parser.old parser.new }
+    ensures reads { Reads (owning sig_view heapless_sig) shared_sig result parser.old parser.new }
 {
     parser.open()?;
     let sig = ItemSig::parse(parser)?;
@@ -416,7 +405,8 @@ fn typed_next(parser: &Parser<'_>) -> bool
 /// Reads a single item.
 #[tactic(auto, unfolding(crate::specs::Import::single_item))]
 fn read_single<'a>(parser: &mut Parser<'a>, module: &'a str) -> Result<ImportItems<'a>>
-    ensures reads { Reads (owning items_view bare_items) single_item result parser.old parser.new }
+    ensures reads { Reads (owning items_view heapless_items) single_item result parser.old
+        parser.new }
     ensures module { IfOk result (λ i. (module_of i).now ≡ «module».now) }
 {
     let name = <&str as Parse>::parse(parser)?;
@@ -427,7 +417,8 @@ fn read_single<'a>(parser: &mut Parser<'a>, module: &'a str) -> Result<ImportIte
 /// Reads items with signatures.
 #[tactic(auto, using(crate::specs::Laws::Import::typed_item_consumes), unfolding(crate::specs::Import::typed_items, crate::specs::Import::typed_list))]
 fn read_typed<'a>(parser: &mut Parser<'a>, module: &'a str) -> Result<ImportItems<'a>>
-    ensures reads { Reads (owning items_view bare_items) typed_items result parser.old parser.new }
+    ensures reads { Reads (owning items_view heapless_items) typed_items result parser.old
+        parser.new }
     ensures module { IfOk result (λ i. (module_of i).now ≡ «module».now) }
 {
     let mut items = Vec::new(parser.alloc());
@@ -438,7 +429,8 @@ fn read_typed<'a>(parser: &mut Parser<'a>, module: &'a str) -> Result<ImportItem
 /// Reads items without signatures, and their shared signature.
 #[tactic(auto, using(crate::specs::Laws::Import::named_item_consumes), unfolding(crate::specs::Import::named_items, crate::specs::Import::named_list))]
 fn read_named<'a>(parser: &mut Parser<'a>, module: &'a str) -> Result<ImportItems<'a>>
-    ensures reads { Reads (owning items_view bare_items) named_items result parser.old parser.new }
+    ensures reads { Reads (owning items_view heapless_items) named_items result parser.old
+        parser.new }
     ensures module { IfOk result (λ i. (module_of i).now ≡ «module».now) }
 {
     let mut items = Vec::new(parser.alloc());
@@ -450,7 +442,8 @@ fn read_named<'a>(parser: &mut Parser<'a>, module: &'a str) -> Result<ImportItem
 /// Reads the imported items, after the module name.
 #[tactic(auto, unfolding(crate::specs::Forms::import_items, crate::specs::Import::import_choice))]
 fn read_items<'a>(parser: &mut Parser<'a>, module: &'a str) -> Result<ImportItems<'a>>
-    ensures reads { Reads (owning items_view bare_items) import_items result parser.old parser.new }
+    ensures reads { Reads (owning items_view heapless_items) import_items result parser.old
+        parser.new }
     ensures module { IfOk result (λ i. (module_of i).now ≡ «module».now) }
 {
     if typed_next(parser) {
@@ -474,9 +467,9 @@ fn read_items<'a>(parser: &mut Parser<'a>, module: &'a str) -> Result<ImportItem
 /// without a signature, or the reverse. Returns ImportId, at the identifier, if a shared signature
 /// has an identifier and a `)` or the end of the text follows the signature.
 impl<'a> Parse<'a> for Imports<'a> {
-    ghost View = { ImportsTy };
+    ghost View = { ImportsModel };
 
-    ghost view = { owning imports_view bare_imports };
+    ghost view = { owning imports_view heapless_imports };
 
     ghost grammar = { imports };
 

@@ -1,12 +1,7 @@
 //! Signatures of imported and exported items.
 
-ghost use Rattle.std.specs.Prelude.{◌≡◌};
-ghost use Rattle.wat_tokens.specs.Copies.{Copies};
-ghost use Rattle.wat_tokens.specs.Reads.{Reads};
-ghost use Rattle.wat_tokens.specs.Views.{owning};
-ghost use Rattle.wat_links.specs.Item.{item_kind_view, bare_item_kind, SigTy, sig_view, bare_sig};
-ghost use Rattle.wat_links.specs.Item.{exact_use, exact_use_view, bare_exact_use, func_kind};
-ghost use Rattle.wat_links.specs.Item.{global_or_tag, item_sig, SameKind, SameSig};
+ghost use Rattle.wat_types.specs.Prelude.{Copies, Reads, owning};
+ghost use Rattle.wat_links.specs.Item.{item_kind_view, heapless_item_kind, ItemSigModel, sig_view, heapless_sig, exact_use, exact_use_view, heapless_exact_use, func_kind, global_or_tag, item_sig, SameKind, SameSig};
 
 use wat_tokens::enclosed::in_word_group;
 use wat_tokens::{Fault, Id, NameAnnotation, Parse, Parser, Result, Span};
@@ -48,7 +43,7 @@ impl<'a> ItemKind<'a> {
     /// Returns a copy of the kind and the type. Returns the error Memory only if the type has an
     /// inline parameter or result.
     pub fn clone(&self) -> Result<ItemKind<'a>>
-        ensures copies { Copies SameKind (owning item_kind_view bare_item_kind) result self.now }
+        ensures copies { Copies SameKind (owning item_kind_view heapless_item_kind) result self.now }
     {
         match self {
             ItemKind::Func(ty) => Ok(ItemKind::Func(ty.clone()?)),
@@ -65,7 +60,7 @@ impl<'a> ItemSig<'a> {
     /// Returns a copy of the signature. Returns the error Memory only if the type has an inline
     /// parameter or result.
     pub fn clone(&self) -> Result<ItemSig<'a>>
-        ensures copies { Copies SameSig (owning sig_view bare_sig) result self.now }
+        ensures copies { Copies SameSig (owning sig_view heapless_sig) result self.now }
     {
         Ok(ItemSig {
             span: self.span,
@@ -81,7 +76,7 @@ impl<'a> ItemSig<'a> {
 /// Specification, Text Format, Types, "External Types").
 #[tactic(auto, unfolding(crate::specs::Item::exact_use))]
 pub fn take_exact_use<'a>(parser: &mut Parser<'a>) -> Result<(TypeUse<'a, FunctionType<'a>>, bool)>
-    ensures reads { Reads (owning exact_use_view bare_exact_use) exact_use result parser.old
+    ensures reads { Reads (owning exact_use_view heapless_exact_use) exact_use result parser.old
         parser.new }
 {
     if !parser.second_is("exact") {
@@ -91,9 +86,9 @@ pub fn take_exact_use<'a>(parser: &mut Parser<'a>) -> Result<(TypeUse<'a, Functi
 }
 
 /// Reads the type of a function, and returns the kind, exact or not.
-#[tactic(auto, using(crate::proofs::ItemKinds::kind_not_bare), unfolding(crate::specs::Item::func_kind))]
+#[tactic(auto, using(crate::proofs::ItemKinds::kind_not_heapless), unfolding(crate::specs::Item::func_kind))]
 fn read_func_kind<'a>(parser: &mut Parser<'a>) -> Result<ItemKind<'a>>
-    ensures reads { Reads (owning item_kind_view bare_item_kind) func_kind result parser.old
+    ensures reads { Reads (owning item_kind_view heapless_item_kind) func_kind result parser.old
         parser.new }
 {
     let (ty, is_exact) = take_exact_use(parser)?;
@@ -106,7 +101,7 @@ fn read_func_kind<'a>(parser: &mut Parser<'a>) -> Result<ItemKind<'a>>
 /// Reads `global` or `tag`, a label, and a type.
 #[tactic(auto, unfolding(crate::specs::Item::global_or_tag))]
 fn read_global_or_tag<'a>(parser: &mut Parser<'a>) -> Result<ItemSig<'a>>
-    ensures reads { Reads (owning sig_view bare_sig) global_or_tag result parser.old parser.new }
+    ensures reads { Reads (owning sig_view heapless_sig) global_or_tag result parser.old parser.new }
 {
     if parser.flag("global") {
         let span = parser.prev_span();
@@ -134,9 +129,9 @@ fn read_global_or_tag<'a>(parser: &mut Parser<'a>) -> Result<ItemSig<'a>>
 /// annotation, and the type. Returns Unexpected, at the first token, if that token is any other.
 /// [`take_exact_use`] reads the type of a function.
 impl<'a> Parse<'a> for ItemSig<'a> {
-    ghost View = { SigTy };
+    ghost View = { ItemSigModel };
 
-    ghost view = { owning sig_view bare_sig };
+    ghost view = { owning sig_view heapless_sig };
 
     ghost grammar = { item_sig };
 

@@ -2,12 +2,9 @@
 
 ghost use Rattle.std.specs.Prelude.{◌≡◌, ◌++◌, ℕ, false, List, map, IfOk, IfErr};
 ghost use Rattle.wat_tokens.specs.Views.{plain, owning, no_items};
-ghost use Rattle.wat_links.specs.Producers.{word_of, same_field, entry_view, entries_view};
-ghost use Rattle.wat_links.specs.Producers.{names_view, producers_view, field_entries};
-ghost use Rattle.wat_links.specs.Producers.{field_with_entries};
-ghost use Rattle.wat_links.specs.Producers.{fields_of, producers};
-ghost use Rattle.wat_links.specs.ProducerEntry.{field_words, Versioned, ProducerTy, field_word};
-ghost use Rattle.wat_links.specs.ProducerEntry.{producer_entry};
+ghost use Rattle.wat_links.specs.Producers.{word_of, same_field, entry_view, entries_view, names_view, producers_view, field_entries, field_with_entries, fields_of, producers};
+ghost use Rattle.wat_links.specs.ProducerEntry.{field_words, Versioned, ProducerEntryModel, field_word, producer_entry};
+ghost use Rattle.wat_links.specs.Laws.Named.{field_is_named};
 
 use std::alloc::Global;
 use wat_tokens::repeat::rest_of_group;
@@ -46,6 +43,10 @@ struct ProducerEntry<'a> {
 impl NamedByKeyword for Field {
     ghost words = { field_words };
 
+    ghost keyword = { word_of };
+
+    ghost is_named = { field_is_named };
+
     fn named(word: &str) -> Option<Self> {
         match word {
             "language" => Some(Field::Language),
@@ -54,20 +55,17 @@ impl NamedByKeyword for Field {
             _ => None,
         }
     }
-}
 
-impl Field {
-    /// Returns the keyword of the field.
-    fn word(self) -> &'static str
-        ensures { result.now ≡ word_of self }
-    {
+    fn word(self) -> &'static str {
         match self {
             Field::Language => "language",
             Field::Sdk => "sdk",
             Field::ProcessedBy => "processed-by",
         }
     }
+}
 
+impl Field {
     /// Returns whether the two fields are the same.
     fn is(self, other: Field) -> bool
         ensures { result ≡ same_field self other }
@@ -99,7 +97,7 @@ impl<'a> Parse<'a> for Field {
 
 /// Reads the keyword of a field, a name and a version, in parentheses.
 impl<'a> Parse<'a> for ProducerEntry<'a> {
-    ghost View = { ProducerTy };
+    ghost View = { ProducerEntryModel };
 
     ghost view = { plain entry_view };
 

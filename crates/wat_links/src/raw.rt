@@ -1,9 +1,7 @@
 //! Custom sections of any name, as bytes.
 
-ghost use Rattle.std.specs.Prelude.{◌≡◌};
-ghost use Rattle.wat_links.specs.Raw.{RawTy, raw_view, bare_raw, raw_place, raw_custom};
-ghost use Rattle.wat_tokens.specs.Reads.{Reads};
-ghost use Rattle.wat_tokens.specs.Views.{plain, owning};
+ghost use Rattle.wat_types.specs.Prelude.{Reads, plain, owning};
+ghost use Rattle.wat_links.specs.Raw.{RawCustomSectionModel, raw_view, heapless_raw, raw_place, raw_custom};
 
 use crate::custom_place::CustomPlace;
 use wat_tokens::enclosed::in_parens;
@@ -37,9 +35,9 @@ fn read_place<'a>(parser: &mut Parser<'a>) -> Result<CustomPlace>
 /// Reads `@custom`, a name, an optional [`CustomPlace`] in parentheses, and strings up to the end
 /// of the group.
 impl<'a> Parse<'a> for RawCustomSection<'a> {
-    ghost View = { RawTy };
+    ghost View = { RawCustomSectionModel };
 
-    ghost view = { owning raw_view bare_raw };
+    ghost view = { owning raw_view heapless_raw };
 
     ghost grammar = { raw_custom };
 

@@ -1,13 +1,8 @@
 -- A binary search.
 use Rattle.std.proofs.Common.{◌≡◌, ℕ, zero, suc, ◌+◌, ◌-◌, ◌*◌, ◌/◌, ◌<◌, ◌≤◌, List, [], length, get_or, arith, ap, ◌∙◌}
-use Rattle.std.specs.declared.cmp.Ordering.TheVariants.{Less, Greater}
-use Rattle.wat_tokens.specs.State.{State}
-use Rattle.wat_mnemonics.specs.Halves.{IsWithin, IsFew}
-use Rattle.wat_mnemonics.specs.Laws.Places.{words_rise, words_length}
-use Rattle.wat_mnemonics.specs.Order.{cmp, words}
-use Rattle.wat_mnemonics.specs.Ops.{op_word}
+use Rattle.wat_mnemonics.specs.Prelude.{Less, Greater, State, IsWithin, IsFew, words_rise, words_length, cmp, words, op_word, op_count}
+use Rattle.wat_mnemonics.specs.Laws.TableIndex.{found_at}
 use Rattle.wat_mnemonics.specs.declared.op.Op.{Op}
-use Rattle.wat_mnemonics.proofs.RowsBelow.{found_at}
 use Rattle.wat_mnemonics.proofs.WordOrder.{below_less, above_greater, absent}
 
 -- ---- the halves of a stretch, by the comparison of the middle entry with the text
@@ -31,8 +26,8 @@ lower_half base size t l w e = record {
 -- a text is no word if its stretch has no entry
 pub no_place : (base size : ℕ) (t : List ℕ) → size ≤ 1 → IsWithin base size t → (h : Op) → op_word h ≡ t → ⊥
 no_place base size t l w h e =
-    let p : (k : ℕ) × (k < 623) × (get_or words k [] ≡ op_word h) = found_at h in
-    let s : length words ≡ 623 = words_length in
+    let p : (k : ℕ) × (k < op_count) × (get_or words k [] ≡ op_word h) = found_at h in
+    let s : length words ≡ op_count = words_length in
     absent words t base base (omega arith) w.less (λ k u v. w.more k (omega (arith, u, l)) (omega (arith, v, s))) p.0 (omega (arith, p.1, s)) (p.2 ∙ e)
 
 -- ---- the number of times that a stretch can be halved

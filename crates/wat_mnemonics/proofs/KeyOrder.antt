@@ -1,17 +1,9 @@
 -- The keys of words, and comparisons of words by keys.
 use Rattle.std.proofs.Common.{◌≡◌, ℕ, zero, suc, ◌+◌, ◌-◌, ◌*◌, ◌<◌, ◌≤◌, ◌⊎◌, inl, inr, Bool, true, List, [], ◌∷◌, length, drop, get_or, map, refl, sym, ◌∙◌, ap, arith}
-use Rattle.std.specs.Cmp.{nat_cmp_is, first_so, second_so}
-use Rattle.std.specs.Ordering.{nat_cmp, ordering_then}
-use Rattle.std.specs.declared.cmp.Ordering.{Ordering}
-use Rattle.std.specs.declared.cmp.Ordering.TheVariants.{Less, Equal, Greater}
 use Rattle.std.proofs.Math.Dec.{ltb}
-use Rattle.std.proofs.lemmas.Bool.{cases_lt, ltb-true}
-use Rattle.std.proofs.lemmas.List.{get_or-map, get_or-drop, length-drop}
-use Rattle.std.proofs.Math.Nat.{eq-or-lt_of_le}
-use Rattle.std.specs.List.{list_all}
+use Rattle.std.proofs.lemmas.List.{get_or-drop}
+use Rattle.wat_mnemonics.specs.Prelude.{nat_cmp_is, first_so, second_so, nat_cmp, ordering_then, Ordering, Less, Equal, Greater, cases_lt, ltb-true, get_or-map, length-drop, eq-or-lt_of_le, list_all, words_length, cmp, words, op_count}
 use Rattle.wat_mnemonics.specs.Keys.{number_of, key}
-use Rattle.wat_mnemonics.specs.Laws.Places.{words_length}
-use Rattle.wat_mnemonics.specs.Order.{cmp, words}
 use Rattle.wat_mnemonics.specs.declared.keys.TheConstants.{KEYS}
 use Rattle.wat_mnemonics.proofs.WordOrder.{less_back, same_so_far}
 
@@ -20,7 +12,7 @@ use Rattle.wat_mnemonics.proofs.WordOrder.{less_back, same_so_far}
 keys_are : KEYS ≡ map key words
 keys_are = refl
 
-key_at : (k : ℕ) → k < 623 → get_or KEYS k 0 ≡ key (get_or words k [])
+key_at : (k : ℕ) → k < op_count → get_or KEYS k 0 ≡ key (get_or words k [])
 key_at k l =
     ap (λ (xs : List ℕ). get_or xs k 0) keys_are ∙ get_or-map key words k [] 0 (let e = words_length in omega (arith, l, e))
 
@@ -126,7 +118,7 @@ by_last a b p q s l u e =
     (omega (arith, length-drop (length b - 8) a, length-drop (length b - 8) b, s))
     (omega (arith, length-drop (length b - 8) b, l)))
 
-module _ (k : ℕ) (l : k < 623) (text : List ℕ) (bytes : IsBytes text) where
+module _ (k : ℕ) (l : k < op_count) (text : List ℕ) (bytes : IsBytes text) where
   pub key_less : get_or KEYS k 0 < key text → cmp (get_or words k []) text ≡ Less
   key_less less =
       below_by 8 (get_or words k []) text (word_bytes k) bytes (omega (arith, less, key_at k l))

@@ -5,7 +5,6 @@ mod Lent
 mod Prefix
 mod RmwTable
 mod Rows
-mod RowsBelow
 mod ScalarTables
 mod VectorTables
 mod WordOrder

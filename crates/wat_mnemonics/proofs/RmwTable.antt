@@ -1,11 +1,11 @@
 -- The table of the words of the read-modify-write accesses.
-use Rattle.std.proofs.Common.{◌≡◌, List, ℕ, [], get_or, map, refl}
+use Rattle.std.specs.Prelude.{◌≡◌, List, ℕ, [], get_or, map, refl}
 use denote.Enum.Declared.{tag_of}
 use Rattle.wat_mnemonics.specs.Access.{rmw_access_word}
 use Rattle.wat_mnemonics.specs.contracts.access.RmwAccessOp.{the_type}
 use Rattle.wat_mnemonics.specs.declared.access.RmwAccessOp.{RmwAccessOp}
-use Rattle.wat_mnemonics.specs.declared.access.RmwAccessOp.TheVariants as rmw_access
 use Rattle.wat_mnemonics.specs.declared.access.TheConstants.{RMW_WORDS}
+use Rattle.wat_mnemonics.specs.declared.access.RmwAccessOp.TheVariants as rmw_access
 
 abbrev words : List (List ℕ)
 words = map (λ w. w.now) RMW_WORDS

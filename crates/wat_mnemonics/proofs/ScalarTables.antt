@@ -1,11 +1,11 @@
 -- The tables of the instructions without an operand, except vector instructions.
-use Rattle.std.proofs.Common.{◌≡◌, List, ℕ, [], get_or, map, refl}
+use Rattle.std.specs.Prelude.{◌≡◌, List, ℕ, [], get_or, map, refl}
+use Rattle.wat_mnemonics.specs.Scalar.{scalar_opcode, scalar_word}
 use denote.Enum.Declared.{tag_of}
-use Rattle.wat_mnemonics.specs.Scalar.{scalar_word, scalar_opcode}
 use Rattle.wat_mnemonics.specs.contracts.scalar.ScalarOp.{the_type}
 use Rattle.wat_mnemonics.specs.declared.scalar.ScalarOp.{ScalarOp}
-use Rattle.wat_mnemonics.specs.declared.scalar.ScalarOp.TheVariants as scalar
 use Rattle.wat_mnemonics.specs.declared.scalar.TheConstants.{WORDS, OPCODES}
+use Rattle.wat_mnemonics.specs.declared.scalar.ScalarOp.TheVariants as scalar
 use Rattle.wat_mnemonics.specs.declared.opcode.Opcode.TheVariants as o
 
 abbrev words : List (List ℕ)

@@ -1,11 +1,11 @@
 -- The tables of the vector instructions.
-use Rattle.std.proofs.Common.{◌≡◌, List, ℕ, [], get_or, map, refl}
+use Rattle.std.specs.Prelude.{◌≡◌, List, ℕ, [], get_or, map, refl}
+use Rattle.wat_mnemonics.specs.Vector.{vector_opcode, vector_word}
 use denote.Enum.Declared.{tag_of}
-use Rattle.wat_mnemonics.specs.Vector.{vector_word, vector_opcode}
 use Rattle.wat_mnemonics.specs.contracts.vector.VectorOp.{the_type}
 use Rattle.wat_mnemonics.specs.declared.vector.VectorOp.{VectorOp}
-use Rattle.wat_mnemonics.specs.declared.vector.VectorOp.TheVariants as vector
 use Rattle.wat_mnemonics.specs.declared.vector.TheConstants.{WORDS, OPCODES}
+use Rattle.wat_mnemonics.specs.declared.vector.VectorOp.TheVariants as vector
 use Rattle.wat_mnemonics.specs.declared.opcode.Opcode.TheVariants as o
 
 abbrev words : List (List ℕ)

@@ -1,11 +1,6 @@
 -- The index of a word among words in order.
 use Rattle.std.proofs.Common.{◌≡◌, ℕ, zero, suc, ◌+◌, ◌<◌, ◌≤◌, List, [], ◌∷◌, length, get_or, refl, sym, ◌∙◌, ap, arith, IsTrue, inl, inr, ◌⊎◌}
-use Rattle.std.specs.Cmp.{nat_cmp_is}
-use Rattle.std.specs.Ordering.{nat_cmp, ordering_reverse, ordering_then}
-use Rattle.std.specs.declared.cmp.Ordering.{Ordering}
-use Rattle.std.proofs.lemmas.Cmp.{nat_list_cmp_total}
-use Rattle.std.specs.declared.cmp.Ordering.TheVariants.{Less, Equal, Greater}
-use Rattle.wat_mnemonics.specs.Order.{cmp, rises}
+use Rattle.wat_mnemonics.specs.Prelude.{nat_cmp_is, nat_cmp, ordering_reverse, ordering_then, Ordering, nat_list_cmp_total, Less, Equal, Greater, cmp, rises}
 use Rattle.wat_mnemonics.specs.Laws.Order.{less_between, self_equal}
 
 greater_back : (x y : List ℕ) → cmp x y ≡ Greater → cmp y x ≡ Less

@@ -1,18 +1,8 @@
 -- The value that the production of a mnemonic reads at a word.
-use Rattle.std.specs.Prelude.{◌≡◌, ℕ, List, [], ◌∷◌, Some, None, refl}
-use Rattle.std.proofs.Common.{ap, sym, ◌∙◌}
-use Rattle.std.specs.Str.{bytes_eq}
-use Rattle.std.specs.Cmp.Lexicographic.{bytes_decides}
-use Rattle.wat_tokens.specs.Token.{Tok, Keyword}
+use Rattle.std.proofs.Common.{◌≡◌, ℕ, List, [], ◌∷◌, Some, None, refl, ap, sym, ◌∙◌}
+use Rattle.wat_mnemonics.specs.Prelude.{bytes_eq, bytes_decides, Token, Keyword, some_of, by_test, some_is, one_reads, op_word, all_ops, first_with, mnemonic_of, mnemonic_reads, op_of_word}
 use Rattle.wat_tokens.specs.Tests.{as_keyword}
-use Rattle.wat_tokens.specs.Production.{some_of}
-use Rattle.wat_tokens.specs.Laws.Production.{by_test, some_is}
-use Rattle.wat_tokens.specs.PartSpells.{one_reads}
-use Rattle.wat_mnemonics.specs.Ops.{op_word}
 use Rattle.wat_mnemonics.specs.declared.op.Op.{Op}
-use Rattle.wat_mnemonics.specs.Table.{all_ops}
-use Rattle.wat_mnemonics.specs.Word.{first_with, mnemonic_of, mnemonic_reads}
-use Rattle.wat_mnemonics.specs.Laws.Word.{op_of_word}
 
 first_none : (w : List ℕ) (xs : List Op) → ((x : Op) → op_word x ≡ w → ⊥) → first_with w xs ≡ None
 first_none w [] f = refl
@@ -27,21 +17,21 @@ mnemonic_of_none w f = first_none w all_ops f
 
 -- ---- by the next word
 
-pub reads_word : (t : List Tok) (w : List ℕ) (r : List Tok) (x : Op) → one_reads as_keyword t ≡ Some (w, r) → op_word x ≡ w → mnemonic_reads t ≡ Some (x, r)
+pub reads_word : (t : List Token) (w : List ℕ) (r : List Token) (x : Op) → one_reads as_keyword t ≡ Some (w, r) → op_word x ≡ w → mnemonic_reads t ≡ Some (x, r)
 reads_word [] w r x e h = absurd cc
 reads_word (Keyword k ∷ t) w r x e h =
     let p = some_is (k, t) (w, r) e in
-    rw (op_of_word x k (h ∙ sym (ap (λ (u : List ℕ × List Tok). u.0) p))) (ap (λ (u : List ℕ × List Tok). some_of (x, u.1)) p)
+    rw (op_of_word x k (h ∙ sym (ap (λ (u : List ℕ × List Token). u.0) p))) (ap (λ (u : List ℕ × List Token). some_of (x, u.1)) p)
 reads_word (_ ∷ t) w r x e h = absurd cc
 
-pub reads_other_word : (t : List Tok) (w : List ℕ) (r : List Tok) → one_reads as_keyword t ≡ Some (w, r) → ((x : Op) → op_word x ≡ w → ⊥) → mnemonic_reads t ≡ None
+pub reads_other_word : (t : List Token) (w : List ℕ) (r : List Token) → one_reads as_keyword t ≡ Some (w, r) → ((x : Op) → op_word x ≡ w → ⊥) → mnemonic_reads t ≡ None
 reads_other_word [] w r e f = refl
 reads_other_word (Keyword k ∷ t) w r e f =
     let p = some_is (k, t) (w, r) e in
-    rw (mnemonic_of_none k (λ x h. f x (h ∙ ap (λ (u : List ℕ × List Tok). u.0) p))) refl
+    rw (mnemonic_of_none k (λ x h. f x (h ∙ ap (λ (u : List ℕ × List Token). u.0) p))) refl
 reads_other_word (_ ∷ t) w r e f = refl
 
-pub reads_no_word : (t : List Tok) → one_reads as_keyword t ≡ None → mnemonic_reads t ≡ None
+pub reads_no_word : (t : List Token) → one_reads as_keyword t ≡ None → mnemonic_reads t ≡ None
 reads_no_word [] e = refl
 reads_no_word (Keyword k ∷ t) e = absurd cc
 reads_no_word (_ ∷ t) e = refl

@@ -1,12 +1,12 @@
 -- Instructions that access a memory: words, rows, default alignments.
 use Rattle.std.specs.Prelude.{ℕ, List, codes}
 use Rattle.wat_mnemonics.specs.declared.access.AccessOp.{AccessOp}
-use Rattle.wat_mnemonics.specs.declared.access.AccessOp.TheVariants as access
 use Rattle.wat_mnemonics.specs.declared.access.AtomicAccessOp.{AtomicAccessOp}
-use Rattle.wat_mnemonics.specs.declared.access.AtomicAccessOp.TheVariants as atomic_access
 use Rattle.wat_mnemonics.specs.declared.access.RmwAccessOp.{RmwAccessOp}
-use Rattle.wat_mnemonics.specs.declared.access.RmwAccessOp.TheVariants as rmw_access
 use Rattle.wat_mnemonics.specs.declared.access.LaneAccessOp.{LaneAccessOp}
+use Rattle.wat_mnemonics.specs.declared.access.AccessOp.TheVariants as access
+use Rattle.wat_mnemonics.specs.declared.access.AtomicAccessOp.TheVariants as atomic_access
+use Rattle.wat_mnemonics.specs.declared.access.RmwAccessOp.TheVariants as rmw_access
 use Rattle.wat_mnemonics.specs.declared.access.LaneAccessOp.TheVariants as lane_access
 
 abbrev pub access_word : AccessOp → List ℕ

@@ -1,22 +1,22 @@
 -- Blocks, labels, and instructions with indices or a lane: words, rows.
 use Rattle.std.specs.Prelude.{ℕ, List, codes}
 use Rattle.wat_mnemonics.specs.declared.indexed.BlockOp.{BlockOp}
-use Rattle.wat_mnemonics.specs.declared.indexed.BlockOp.TheVariants as block
 use Rattle.wat_mnemonics.specs.declared.indexed.LabelOp.{LabelOp}
-use Rattle.wat_mnemonics.specs.declared.indexed.LabelOp.TheVariants as label
 use Rattle.wat_mnemonics.specs.declared.indexed.IndexedOp.{IndexedOp}
-use Rattle.wat_mnemonics.specs.declared.indexed.IndexedOp.TheVariants as indexed
 use Rattle.wat_mnemonics.specs.declared.indexed.CallIndirectOp.{CallIndirectOp}
-use Rattle.wat_mnemonics.specs.declared.indexed.CallIndirectOp.TheVariants as call_indirect
 use Rattle.wat_mnemonics.specs.declared.indexed.TableOp.{TableOp}
-use Rattle.wat_mnemonics.specs.declared.indexed.TableOp.TheVariants as table
 use Rattle.wat_mnemonics.specs.declared.indexed.MemoryOp.{MemoryOp}
-use Rattle.wat_mnemonics.specs.declared.indexed.MemoryOp.TheVariants as memory
 use Rattle.wat_mnemonics.specs.declared.indexed.StructOp.{StructOp}
-use Rattle.wat_mnemonics.specs.declared.indexed.StructOp.TheVariants as struct
 use Rattle.wat_mnemonics.specs.declared.indexed.ArrayInitOp.{ArrayInitOp}
-use Rattle.wat_mnemonics.specs.declared.indexed.ArrayInitOp.TheVariants as array_init
 use Rattle.wat_mnemonics.specs.declared.indexed.LaneOp.{LaneOp}
+use Rattle.wat_mnemonics.specs.declared.indexed.BlockOp.TheVariants as block
+use Rattle.wat_mnemonics.specs.declared.indexed.LabelOp.TheVariants as label
+use Rattle.wat_mnemonics.specs.declared.indexed.IndexedOp.TheVariants as indexed
+use Rattle.wat_mnemonics.specs.declared.indexed.CallIndirectOp.TheVariants as call_indirect
+use Rattle.wat_mnemonics.specs.declared.indexed.TableOp.TheVariants as table
+use Rattle.wat_mnemonics.specs.declared.indexed.MemoryOp.TheVariants as memory
+use Rattle.wat_mnemonics.specs.declared.indexed.StructOp.TheVariants as struct
+use Rattle.wat_mnemonics.specs.declared.indexed.ArrayInitOp.TheVariants as array_init
 use Rattle.wat_mnemonics.specs.declared.indexed.LaneOp.TheVariants as lane
 
 abbrev pub block_word : BlockOp → List ℕ

@@ -1,6 +1,5 @@
 -- Words by their first eight bytes.
-use Rattle.std.specs.Prelude.{ℕ, zero, suc, ◌+◌, ◌*◌, List}
-use Rattle.std.proofs.Common.{get_or}
+use Rattle.std.specs.Prelude.{ℕ, zero, suc, ◌+◌, ◌*◌, List, get_or}
 
 -- the first n bytes as one number, the first byte the most significant, with 0 for missing bytes
 abbrev pub number_of : List ℕ → ℕ → ℕ

@@ -1,4 +1,4 @@
 -- Laws of the definitions: lemmas that definitions or other crates rest on.
 pub mod Order
-pub mod Places
+pub mod TableIndex
 pub mod Word

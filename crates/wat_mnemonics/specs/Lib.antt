@@ -10,9 +10,10 @@ pub mod Mnemonic
 pub mod Opcodes
 pub mod Order
 pub mod Ordered
-pub mod Places
+pub mod TableIndex
 pub mod Probes
 pub mod Scalar
 pub mod Table
 pub mod Vector
 pub mod Word
+pub mod Prelude

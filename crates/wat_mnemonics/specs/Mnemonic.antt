@@ -1,10 +1,8 @@
 -- The word of an instruction.
-use Rattle.wat_tokens.specs.Asks.{nothing}
-use Rattle.wat_tokens.specs.Production.{Production}
+use Rattle.wat_tokens.specs.Prelude.{nothing, Production}
 use Rattle.wat_mnemonics.specs.declared.op.Op.{Op}
 use Rattle.wat_mnemonics.specs.Word.{mnemonic_spells, mnemonic_reads}
-use Rattle.wat_mnemonics.specs.Laws.Word.{mnemonic_sound, mnemonic_complete, mnemonic_takes}
-use Rattle.wat_mnemonics.specs.Laws.Word.{mnemonic_balanced}
+use Rattle.wat_mnemonics.specs.Laws.Word.{mnemonic_sound, mnemonic_complete, mnemonic_takes, mnemonic_balanced}
 
 -- ---- the production
 

@@ -1,6 +1,5 @@
 -- The bytes of an opcode.
-use Rattle.std.specs.Prelude.{◌≡◌, ℕ, ◌+◌, ◌%◌, ◌/◌, nat_lt, if◌then◌else◌, List, [], ◌∷◌, ◌++◌}
-use Rattle.std.specs.Prelude.{length, Option, Some, None, IsSome, Result, Ok, Err}
+use Rattle.std.specs.Prelude.{IsSome, ◌≡◌, ℕ, ◌+◌, ◌%◌, ◌/◌, nat_lt, if◌then◌else◌, List, [], ◌∷◌, ◌++◌, length, Option, Some, None, Result, Ok, Err}
 use Rattle.wat_tokens.specs.Error.{Error, Memory}
 use Rattle.wat_mnemonics.specs.declared.opcode.Opcode.{Opcode}
 use Rattle.wat_mnemonics.specs.declared.opcode.Opcode.TheVariants as o

@@ -1,20 +1,13 @@
 -- Instructions without their operands: their words, rows and opcodes.
 use Rattle.std.specs.Prelude.{ℕ, List, codes}
-use Rattle.wat_mnemonics.specs.Access.{access_word, access_row, atomic_access_word}
-use Rattle.wat_mnemonics.specs.Access.{atomic_access_row, rmw_access_word, rmw_access_row}
-use Rattle.wat_mnemonics.specs.Access.{lane_access_word, lane_access_row}
-use Rattle.wat_mnemonics.specs.Indexed.{block_word, block_row, label_word, label_row, indexed_word}
-use Rattle.wat_mnemonics.specs.Indexed.{indexed_row, call_indirect_word, call_indirect_row}
-use Rattle.wat_mnemonics.specs.Indexed.{table_word, table_row, memory_word, memory_row, struct_word}
-use Rattle.wat_mnemonics.specs.Indexed.{struct_row, array_init_word, array_init_row, lane_word}
-use Rattle.wat_mnemonics.specs.Indexed.{lane_row}
-use Rattle.wat_mnemonics.specs.Ordered.{ordered_index_word, ordered_index_row, ordered_table_word}
-use Rattle.wat_mnemonics.specs.Ordered.{ordered_table_row, ordered_struct_word, ordered_struct_row}
+use Rattle.wat_mnemonics.specs.Access.{access_word, access_row, atomic_access_word, atomic_access_row, rmw_access_word, rmw_access_row, lane_access_word, lane_access_row}
+use Rattle.wat_mnemonics.specs.Indexed.{block_word, block_row, label_word, label_row, indexed_word, indexed_row, call_indirect_word, call_indirect_row, table_word, table_row, memory_word, memory_row, struct_word, struct_row, array_init_word, array_init_row, lane_word, lane_row}
+use Rattle.wat_mnemonics.specs.Ordered.{ordered_index_word, ordered_index_row, ordered_table_word, ordered_table_row, ordered_struct_word, ordered_struct_row}
 use Rattle.wat_mnemonics.specs.Scalar.{scalar_word, scalar_row, scalar_opcode}
 use Rattle.wat_mnemonics.specs.Vector.{vector_word, vector_row, vector_opcode}
 use Rattle.wat_mnemonics.specs.declared.op.Op.{Op}
-use Rattle.wat_mnemonics.specs.declared.op.Op.TheVariants as h
 use Rattle.wat_mnemonics.specs.declared.opcode.Opcode.{Opcode}
+use Rattle.wat_mnemonics.specs.declared.op.Op.TheVariants as h
 use Rattle.wat_mnemonics.specs.declared.opcode.Opcode.TheVariants as o
 
 -- the word that an instruction begins with

@@ -1,10 +1,10 @@
 -- Instructions with an ordering: words, rows.
 use Rattle.std.specs.Prelude.{ℕ, List, codes}
 use Rattle.wat_mnemonics.specs.declared.ordered.OrderedIndexOp.{OrderedIndexOp}
-use Rattle.wat_mnemonics.specs.declared.ordered.OrderedIndexOp.TheVariants as ordered_index
 use Rattle.wat_mnemonics.specs.declared.ordered.OrderedTableOp.{OrderedTableOp}
-use Rattle.wat_mnemonics.specs.declared.ordered.OrderedTableOp.TheVariants as ordered_table
 use Rattle.wat_mnemonics.specs.declared.ordered.OrderedStructOp.{OrderedStructOp}
+use Rattle.wat_mnemonics.specs.declared.ordered.OrderedIndexOp.TheVariants as ordered_index
+use Rattle.wat_mnemonics.specs.declared.ordered.OrderedTableOp.TheVariants as ordered_table
 use Rattle.wat_mnemonics.specs.declared.ordered.OrderedStructOp.TheVariants as ordered_struct
 
 abbrev pub ordered_index_word : OrderedIndexOp → List ℕ

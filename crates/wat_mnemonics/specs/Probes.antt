@@ -1,11 +1,7 @@
 -- The counts of the lookup of a word.
 use Rattle.std.specs.Prelude.{◌+◌, ◌≤◌, Result}
+use Rattle.wat_mnemonics.specs.Prelude.{Error, ReadsAt, State, plain, mnemonic}
 use Rattle.wat_tokens.specs.Cost.{words_too}
-use Rattle.wat_tokens.specs.Error.{Error}
-use Rattle.wat_tokens.specs.Reads.{ReadsAt}
-use Rattle.wat_tokens.specs.State.{State}
-use Rattle.wat_tokens.specs.Views.{plain}
-use Rattle.wat_mnemonics.specs.Mnemonic.{mnemonic}
 use Rattle.wat_mnemonics.specs.declared.op.Op.{Op}
 
 -- at most ten comparisons of the word with entries of the table were counted

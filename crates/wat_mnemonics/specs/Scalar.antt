@@ -1,8 +1,8 @@
 -- Scalar instructions without an operand: words, rows, opcodes.
 use Rattle.std.specs.Prelude.{ℕ, List, codes}
 use Rattle.wat_mnemonics.specs.declared.scalar.ScalarOp.{ScalarOp}
-use Rattle.wat_mnemonics.specs.declared.scalar.ScalarOp.TheVariants as scalar
 use Rattle.wat_mnemonics.specs.declared.opcode.Opcode.{Opcode}
+use Rattle.wat_mnemonics.specs.declared.scalar.ScalarOp.TheVariants as scalar
 use Rattle.wat_mnemonics.specs.declared.opcode.Opcode.TheVariants as o
 
 abbrev pub scalar_word : ScalarOp → List ℕ

@@ -1,5 +1,5 @@
 -- The instructions, in the byte order of their words.
-use Rattle.std.specs.Prelude.{List, [], ◌∷◌}
+use Rattle.std.specs.Prelude.{ℕ, List, [], ◌∷◌}
 use Rattle.wat_mnemonics.specs.declared.op.Op.{Op}
 use Rattle.wat_mnemonics.specs.declared.op.Op.TheVariants as h
 use Rattle.wat_mnemonics.specs.declared.indexed.BlockOp.TheVariants as block
@@ -314,3 +314,7 @@ all_ops =
     ∷ (h.Access access.v128_store) ∷ (h.LaneAccess lane_access.v128_store16_lane)
     ∷ (h.LaneAccess lane_access.v128_store32_lane) ∷ (h.LaneAccess lane_access.v128_store64_lane)
     ∷ (h.LaneAccess lane_access.v128_store8_lane) ∷ (h.Vector vector.v128_xor) ∷ []
+
+-- the number of instructions
+abbrev pub op_count : ℕ
+op_count = 623

@@ -1,8 +1,8 @@
 -- Vector instructions without an operand: words, rows, opcodes.
 use Rattle.std.specs.Prelude.{ℕ, List, codes}
 use Rattle.wat_mnemonics.specs.declared.vector.VectorOp.{VectorOp}
-use Rattle.wat_mnemonics.specs.declared.vector.VectorOp.TheVariants as vector
 use Rattle.wat_mnemonics.specs.declared.opcode.Opcode.{Opcode}
+use Rattle.wat_mnemonics.specs.declared.vector.VectorOp.TheVariants as vector
 use Rattle.wat_mnemonics.specs.declared.opcode.Opcode.TheVariants as o
 
 abbrev pub vector_word : VectorOp → List ℕ

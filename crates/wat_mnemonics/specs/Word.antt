@@ -1,9 +1,6 @@
 -- The word of an instruction, as a production.
 use Rattle.std.specs.Prelude.{◌≡◌, ℕ, List, [], ◌∷◌, if◌then◌else◌, Option, Some, None}
-use Rattle.std.specs.Str.{bytes_eq}
-use Rattle.wat_tokens.specs.Token.{Tok, Keyword}
-use Rattle.wat_tokens.specs.Production.{Read}
-use Rattle.wat_tokens.specs.PartSpells.{with_rest}
+use Rattle.wat_tokens.specs.Prelude.{bytes_eq, Token, Keyword, Read, with_rest}
 use Rattle.wat_mnemonics.specs.Ops.{op_word}
 use Rattle.wat_mnemonics.specs.declared.op.Op.{Op}
 use Rattle.wat_mnemonics.specs.Table.{all_ops}
@@ -20,9 +17,9 @@ mnemonic_of w = first_with w all_ops
 -- ---- the production
 
 -- the word of the instruction
-abbrev pub mnemonic_spells : Op → List Tok → List Tok → Type 0
+abbrev pub mnemonic_spells : Op → List Token → List Token → Type 0
 mnemonic_spells x c r = c ≡ Keyword (op_word x) ∷ []
 
-abbrev pub mnemonic_reads : List Tok → Read Op
+abbrev pub mnemonic_reads : List Token → Read Op
 mnemonic_reads (Keyword w ∷ r) = with_rest (mnemonic_of w) r
 mnemonic_reads _ = None

@@ -1,9 +1,7 @@
 //! Instructions with a memory access.
 
 ghost use Rattle.std.specs.Prelude.{◌≡◌};
-ghost use Rattle.wat_mnemonics.specs.Access.{access_word, access_align, atomic_access_word};
-ghost use Rattle.wat_mnemonics.specs.Access.{atomic_access_align, rmw_access_word};
-ghost use Rattle.wat_mnemonics.specs.Access.{rmw_access_align, lane_access_word, lane_access_align};
+ghost use Rattle.wat_mnemonics.specs.Access.{access_word, access_align, atomic_access_word, atomic_access_align, rmw_access_word, rmw_access_align, lane_access_word, lane_access_align};
 
 /// An instruction whose operand is a memory access: a load, a store, a wait or a notify
 /// (WebAssembly Core Specification, Text Format, Instructions, "Memory Instructions").

@@ -1,11 +1,9 @@
 //! The lookup of a mnemonic.
 
-ghost use Rattle.std.specs.Prelude.{◌≡◌, ◌≢◌, ◌<◌, ◌≤◌, ◌+◌, ◌∷◌, ℕ, List, IfSome, IfNone, IfErr};
-ghost use Rattle.wat_tokens.specs.Token.{Tok, Keyword};
-ghost use Rattle.wat_mnemonics.specs.Ops.{op_word};
+ghost use Rattle.std.specs.Prelude.{IfNone, ◌≡◌, ◌≢◌, ◌<◌, ◌≤◌, ◌+◌, ◌∷◌, ℕ, List, IfSome, IfErr};
+ghost use Rattle.wat_mnemonics.specs.Prelude.{Token, Keyword, op_word, Carries};
 ghost use Rattle.wat_mnemonics.specs.Probes.{ReadsWord, AtMostTen};
 ghost use Rattle.wat_mnemonics.specs.declared.op.Op.{Op as AnyOp};
-ghost use Rattle.wat_tokens.specs.Counts.{Carries};
 
 use crate::keys::{KEYS, key_of};
 use crate::op::Op;
@@ -50,7 +48,7 @@ impl Op {
     pub fn take(parser: &mut Parser<'_>) -> Result<Op>
         ensures reads { ReadsWord result parser.old parser.new }
         ensures probes { AtMostTen parser.old parser.new }
-        ensures probed { (w : List ℕ) (r : List Tok) → parser.old.left ≡ Keyword w ∷ r
+        ensures probed { (w : List ℕ) (r : List Token) → parser.old.left ≡ Keyword w ∷ r
             → parser.old.probes + 1 ≤ parser.new.probes }
         ensures fault { IfErr result (λ e. e.fault ≡ Fault.Operator) }
     {

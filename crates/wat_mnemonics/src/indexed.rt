@@ -1,9 +1,7 @@
 //! Instructions with a block type, a label, indices or a lane.
 
 ghost use Rattle.std.specs.Prelude.{◌≡◌};
-ghost use Rattle.wat_mnemonics.specs.Indexed.{block_word, label_word, indexed_word};
-ghost use Rattle.wat_mnemonics.specs.Indexed.{call_indirect_word, table_word, memory_word};
-ghost use Rattle.wat_mnemonics.specs.Indexed.{struct_word, array_init_word, lane_word};
+ghost use Rattle.wat_mnemonics.specs.Indexed.{block_word, label_word, indexed_word, call_indirect_word, table_word, memory_word, struct_word, array_init_word, lane_word};
 
 /// An instruction whose operand is a block type (WebAssembly Core Specification, Text Format,
 /// Instructions, "Control Instructions").

@@ -1,17 +1,16 @@
 //! Keys of mnemonics: their first eight bytes as a number.
 
-ghost use Rattle.std.specs.Prelude.{◌≡◌, ◌+◌, ◌-◌, ◌*◌, ◌<◌, ◌≤◌, length, drop};
-ghost use Rattle.std.proofs.Common.{get_or};
+ghost use Rattle.std.specs.Prelude.{◌≡◌, ◌+◌, ◌-◌, ◌*◌, ◌<◌, ◌≤◌, length, drop, get_or};
 ghost use Rattle.wat_mnemonics.specs.Keys.{key, number_of};
 
 /// Appends the byte at an offset to a number, as its lowest eight bits. Appends 0 if the text is
 /// shorter.
-fn with_byte(number: u64, bytes: &[u8], place: usize) -> u64
+fn with_byte(number: u64, bytes: &[u8], offset: usize) -> u64
     requires room { number < 0x0100_0000_0000_0000 }
-    ensures value { result ≡ number * 256 + get_or bytes.now place 0 }
+    ensures value { result ≡ number * 256 + get_or bytes.now offset 0 }
     ensures small { result < (number + 1) * 256 }
 {
-    let byte = match bytes.get(place) {
+    let byte = match bytes.get(offset) {
         Some(byte) => *byte,
         None => 0,
     };

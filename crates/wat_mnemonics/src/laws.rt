@@ -1,11 +1,9 @@
 //! Laws of the table of mnemonics. The functions do nothing; their contracts are the laws.
 
 ghost use Rattle.std.specs.Prelude.{◌≡◌, ◌<◌, ◌++◌, ℕ, List, Some, IsTrue, map};
-ghost use Rattle.wat_mnemonics.specs.Ops.{op_word, op_row, op_opcode};
-ghost use Rattle.wat_mnemonics.specs.Opcodes.{bytes};
-ghost use Rattle.wat_mnemonics.specs.Order.{rises};
-ghost use Rattle.wat_mnemonics.specs.declared.op.Op.{Op as AnyOp};
+ghost use Rattle.wat_mnemonics.specs.Prelude.{op_word, op_row, op_opcode, bytes, rises};
 ghost use Rattle.wat_mnemonics.specs.declared.table.TheConstants.{OPS};
+ghost use Rattle.wat_mnemonics.specs.declared.op.Op.{Op as AnyOp};
 
 /// The mnemonics of the table are in strictly ascending byte order.
 pub fn words_in_order()

@@ -1,8 +1,7 @@
 //! Atomic instructions whose operand begins with an ordering.
 
 ghost use Rattle.std.specs.Prelude.{◌≡◌};
-ghost use Rattle.wat_mnemonics.specs.Ordered.{ordered_index_word, ordered_table_word};
-ghost use Rattle.wat_mnemonics.specs.Ordered.{ordered_struct_word};
+ghost use Rattle.wat_mnemonics.specs.Ordered.{ordered_index_word, ordered_table_word, ordered_struct_word};
 
 /// An atomic instruction whose operand is an ordering and an index: of a global or of an array type
 /// (WebAssembly Core Specification, Text Format, "Instructions", with the proposals on threads).

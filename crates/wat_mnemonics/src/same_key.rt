@@ -1,14 +1,9 @@
 //! The search in a part of the table, after an entry with the text's key was found.
 
-ghost use Rattle.std.specs.Prelude.{◌≡◌, ◌≢◌, ◌<◌, ◌≤◌, ◌+◌, ◌-◌, ◌/◌, [], ℕ, IfSome, IfNone};
-ghost use Rattle.std.specs.Prelude.{slice_index, slice_index_or};
-ghost use Rattle.wat_mnemonics.specs.Halves.{IsWithin, IsFew};
-ghost use Rattle.wat_mnemonics.specs.Ops.{op_word};
+ghost use Rattle.std.specs.Prelude.{IfNone, slice_index_or, ◌≡◌, ◌≢◌, ◌<◌, ◌≤◌, ◌+◌, ◌-◌, ◌/◌, [], ℕ, IfSome, slice_index};
+ghost use Rattle.wat_mnemonics.specs.Prelude.{IsWithin, IsFew, op_word, cmp, first, words, all_ops, Carries};
 ghost use Rattle.wat_mnemonics.specs.Keys.{key as key_of};
-ghost use Rattle.wat_mnemonics.specs.Order.{cmp, first, words};
-ghost use Rattle.wat_mnemonics.specs.Table.{all_ops};
 ghost use Rattle.wat_mnemonics.specs.declared.op.Op.{Op as AnyOp};
-ghost use Rattle.wat_tokens.specs.Counts.{Carries};
 
 use crate::keys::{KEYS, last_eight};
 use crate::op::Op;
@@ -17,21 +12,21 @@ use std::cmp::Ordering;
 use wat_tokens::Parser;
 
 /// Returns the entry of the table at an index.
-fn op_at(place: usize) -> Op
-    requires { place < 623 }
-    ensures { result ≡ slice_index_or all_ops place first }
+fn op_at(index: usize) -> Op
+    requires { index < 623 }
+    ensures { result ≡ slice_index_or all_ops index first }
 {
-    OPS[place]
+    OPS[index]
 }
 
 /// Compares the word of an entry with a text that has the same key.
 #[inline(always)]
-fn compared_whole(place: usize, text: &str) -> Ordering
-    requires place { place < 623 }
-    requires same { slice_index KEYS place ≡ key_of text.now }
-    ensures { result ≡ cmp (slice_index_or words place []) text.now }
+fn compared_whole(index: usize, text: &str) -> Ordering
+    requires index { index < 623 }
+    requires same { slice_index KEYS index ≡ key_of text.now }
+    ensures { result ≡ cmp (slice_index_or words index []) text.now }
 {
-    let word = op_at(place).word();
+    let word = op_at(index).word();
     // (the first eight bytes are the same, so of up to 16 only the last eight can differ)
     if word.len() == text.len() {
         if text.len() <= 8 {
@@ -48,14 +43,14 @@ fn compared_whole(place: usize, text: &str) -> Ordering
 }
 
 /// Compares the word of an entry with a text. If their keys differ, compares only the keys.
-fn compared(place: usize, key: u64, text: &str) -> Ordering
-    requires place { place < 623 }
+fn compared(index: usize, key: u64, text: &str) -> Ordering
+    requires index { index < 623 }
     requires key { key ≡ key_of text.now }
-    ensures { result ≡ cmp (slice_index_or words place []) text.now }
+    ensures { result ≡ cmp (slice_index_or words index []) text.now }
 {
-    let entry = KEYS[place];
+    let entry = KEYS[index];
     if entry == key {
-        return compared_whole(place, text);
+        return compared_whole(index, text);
     }
     if entry < key {
         Ordering::Less
@@ -85,12 +80,12 @@ fn find_between(
 {
     'halves: while size > 1 {
         let half = size / 2;
-        let place = base + half - 1;
+        let index = base + half - 1;
         size -= half;
         parser.probe();
-        match compared(place, key, text) {
+        match compared(index, key, text) {
             Ordering::Less => base += half,
-            Ordering::Equal => return Some(op_at(place)),
+            Ordering::Equal => return Some(op_at(index)),
             Ordering::Greater => {}
         }
     }
@@ -117,11 +112,11 @@ pub(crate) fn find_whole(
     ensures probes { (most : ℕ) → IsFew size parser.old.probes most → parser.new.probes ≤ most }
 {
     let half = size / 2;
-    let place = base + half - 1;
+    let index = base + half - 1;
     parser.probe();
-    match compared_whole(place, text) {
+    match compared_whole(index, text) {
         Ordering::Less => find_between(parser, base + half, size - half, key, text),
-        Ordering::Equal => Some(op_at(place)),
+        Ordering::Equal => Some(op_at(index)),
         Ordering::Greater => find_between(parser, base, size - half, key, text),
     }
 }

@@ -1,8 +1,6 @@
 -- Lanes under the identity view.
-use Rattle.std.proofs.lemmas.List.{map-append}
 use Rattle.std.proofs.Common.{◌≡◌, List, [], ◌∷◌, ◌++◌, map, length, get_or, arith, refl, ap, ◌∙◌}
-use Rattle.wat_tokens.specs.declared.floats.F32.{F32}
-use Rattle.wat_tokens.specs.declared.floats.F64.{F64}
+use Rattle.wat_types.specs.Prelude.{map-append, F32, F64}
 use Rattle.wat_operands.specs.Vector.{f32_of, f64_of}
 
 pub items_again : {A : Type 0} (xs : List A) → map (λ n. n) xs ≡ xs

@@ -1,11 +1,11 @@
 -- Numbers and their bytes.
-use Rattle.std.proofs.Common.{◌≡◌, ℕ, zero, suc, ℤ, ◌+◌, ◌*◌, ◌/◌, ◌<◌, ◌%◌, ◌^◌, List, [], ◌∷◌, ◌++◌, map, flat_map, length, get_or, arith, refl, ap, sym, ◌∙◌, length-append, lit<}
+use Rattle.std.proofs.Common.{lit<, ◌≡◌, ℕ, zero, suc, ℤ, ◌+◌, ◌*◌, ◌/◌, ◌<◌, ◌%◌, ◌^◌, List, [], ◌∷◌, ◌++◌, map, flat_map, length, get_or, arith, refl, ap, sym, ◌∙◌, length-append}
 use Rattle.std.proofs.lemmas.List.Concat.{flat_map-append}
 use Rattle.std.proofs.Math.Arith.{mod-mul}
 use Rattle.std.proofs.Math.Nat.{div-div-eq-div-mul}
 use Rattle.std.specs.Array.{IsMapOf}
-use Rattle.std.specs.Int.{w8, w16, w32, w64, byte_at, bytes_low_first, cast_unsigned, to_le_bytes}
-use Rattle.wat_operands.specs.Vector.{bytes_of, lane_bits, SameShape}
+use Rattle.wat_operands.specs.Prelude.{w8, w16, w32, w64, byte_at, bytes_low_first, cast_unsigned, to_le_bytes, bytes_of}
+use Rattle.wat_operands.specs.Vector.{lane_bits, SameShape}
 use Rattle.wat_operands.specs.declared.vector.V128Const.{V128Const}
 use Rattle.wat_operands.specs.declared.vector.V128Const.TheVariants.{I8x16, I16x8, I32x4, I64x2, F32x4, F64x2}
 use Rattle.wat_operands.proofs.Again.{eight_items}

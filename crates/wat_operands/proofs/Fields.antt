@@ -1,21 +1,10 @@
 -- The text after the prefix of a word.
-use Rattle.std.proofs.Common.{◌≡◌, ◌≢◌, ℕ, ◌==◌, true, List, [], ◌∷◌, ◌++◌, drop, Option, Some, None, option_map, MatchOption, refl, ap, sym, ◌∙◌, Bor}
-use Rattle.std.specs.Cmp.{unsigned_Decides}
+use Rattle.std.proofs.Common.{Bor, ◌≡◌, ◌≢◌, ℕ, ◌==◌, List, [], ◌∷◌, ◌++◌, drop, Option, Some, None, option_map, MatchOption, refl, ap, sym, ◌∙◌}
 use Rattle.std.specs.Str.Pattern.{LacksTextAt, FindsTextPrefix, StripsPrefix}
-use Rattle.wat_tokens.specs.Laws.Production.{by_test}
-use Rattle.wat_tokens.specs.Kind.{past_front}
+use Rattle.wat_operands.specs.Prelude.{unsigned_Decides, by_test, past_front, past_own_front}
 
 abbrev some_text : List ℕ → Option (List ℕ)
 some_text u = Some u
-
-same : (b : ℕ) → (b == b) ≡ true
-same b = (unsigned_Decides b b).1 refl
-
--- past_front removes a prefix that was added
-past_own_front : (front rest : List ℕ) → past_front front (front ++ rest) ≡ Some rest
-unfolding past_front
-past_own_front [] rest = refl
-past_own_front (b ∷ front) rest = rw (same b) (past_own_front front rest)
 
 past_no_front : (front text : List ℕ) → ((rest : List ℕ) → text ≢ front ++ rest) → past_front front text ≡ None
 unfolding past_front

@@ -1,32 +1,19 @@
 -- Sample texts as tokens, and the operands that are read from them.
-use Rattle.std.proofs.Common.{◌≡◌, true, false, List, [], ◌∷◌, ◌++◌, Some, None, refl}
-use Rattle.std.specs.Prelude.{codes}
-use Rattle.wat_tokens.specs.Index.{name}
-use Rattle.wat_tokens.specs.Token.{Tok, Keyword, Id}
-use Rattle.wat_tokens.specs.Spelled.{in_parens, Spelled}
-use Rattle.wat_tokens.specs.Laws.Spelled.{spelled_whole}
-use Rattle.wat_tokens.specs.ManySpells.{many_at, many_reads}
-use Rattle.wat_tokens.specs.Number.{read}
-use Rattle.wat_operands.specs.Lanes.{lane_arg, lane_access}
-use Rattle.wat_operands.specs.Memory.{MemArgTy, array, target, offset_or_0, align, align_or, mem_arg, atomic_mem_arg}
-use Rattle.wat_operands.specs.Align.{field}
-use Rattle.wat_tokens.specs.Kind.{past_front}
-use Rattle.wat_operands.specs.Ordering.{ordering, ordered}
+use Rattle.std.specs.Prelude.{◌≡◌, true, false, List, [], ◌∷◌, ◌++◌, Some, None, refl, codes}
+use Rattle.wat_operands.specs.Prelude.{name, Token, Keyword, Id, in_parens, Spelled, spelled_whole, many_at, many_reads, read, lane_arg, lane_access, MemArgModel, array, target, offset_or_0, align, align_or, mem_arg, atomic_mem_arg, field, past_front, ordering, ordered, index_or_0, index_pair, init, copy, two, four, wide_const, v128_const}
 use Rattle.wat_operands.specs.ImmediateRows.{Accesses, AtomicAccesses, LaneAccesses, TableInits, TableCopies, Vector, OrderedTable}
-use Rattle.wat_operands.specs.Tables.{index_or_0, index_pair, init, copy}
-use Rattle.wat_operands.specs.Vector.{two, four, wide_const, v128_const}
 
-abbrev align_word : List Tok
+abbrev align_word : List Token
 align_word = Keyword (codes "align=2") ∷ []
 
 align_is_2 : align.reads align_word ≡ Some (2, [])
 unfolding align field past_front read
 align_is_2 = align.complete 2 align_word [] ((Keyword (codes "align=2"), refl, refl), (1, refl))
 
-abbrev in_array : List Tok
+abbrev in_array : List Token
 in_array = in_parens (Keyword (codes "type") ∷ Id (codes "a") ∷ []) ++ Keyword (codes "offset=1") ∷ align_word
 
-abbrev access_in_array : MemArgTy
+abbrev access_in_array : MemArgModel
 access_in_array = record { target = array (name (codes "a")); offset = 1; align = 2; ordering = None }
 
 array_access : Spelled (mem_arg 4) in_array access_in_array

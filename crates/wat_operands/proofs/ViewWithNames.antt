@@ -1,14 +1,9 @@
 -- The view of a block type as a type with names.
-use Rattle.std.specs.Prelude.{◌≡◌, Option, Some, None, option_map, refl}
-use Rattle.std.proofs.Common.{ap}
-use Rattle.wat_tokens.specs.Index.{index_view}
-use Rattle.wat_tokens.specs.Views.{option_view}
-use Rattle.wat_types.specs.Group.{FuncTy}
-use Rattle.wat_types.specs.Function.{function_view, unnamed_view}
-use Rattle.wat_types.specs.Use.{use_of, use_view, with_names}
+use Rattle.std.proofs.Common.{◌≡◌, Option, Some, None, option_map, refl, ap}
+use Rattle.wat_operands.specs.Prelude.{index_view, option_view, FunctionTypeModel, function_view, use_of, use_view, TypeUse, signature_view}
+use Rattle.wat_types.specs.Function.{unnamed_view}
+use Rattle.wat_types.specs.Use.{with_names}
 use Rattle.wat_types.specs.declared.function.FunctionTypeNoNames.{FunctionTypeNoNames}
-use Rattle.wat_types.specs.declared.type_use.TypeUse.{TypeUse}
-use Rattle.wat_operands.specs.Block.{signature_view}
 
 -- ---- the type of a block or of a call
 
@@ -18,4 +13,4 @@ inline_with_names None = refl
 
 -- a type use without names has the same view as its conversion to a type use with names
 pub view_with_names : (u : TypeUse FunctionTypeNoNames) → signature_view (with_names u) ≡ use_view unnamed_view u
-view_with_names u = ap (λ (o : Option FuncTy). use_of (option_view index_view u.index) o) (inline_with_names u.inline)
+view_with_names u = ap (λ (o : Option FunctionTypeModel). use_of (option_view index_view u.index) o) (inline_with_names u.inline)

@@ -1,48 +1,42 @@
 -- Block types.
 use Rattle.std.specs.Prelude.{◌≡◌, Bool}
-use Rattle.wat_tokens.specs.Production.{Production}
-use Rattle.wat_tokens.specs.Parts.{seq, made}
-use Rattle.wat_types.specs.Label.{Label, label_view, label}
-use Rattle.wat_types.specs.Group.{FuncTy, at_func}
-use Rattle.wat_types.specs.Function.{function_view, bare_function}
-use Rattle.wat_types.specs.Use.{UseTy, use_view, bare_use, type_use, SameFunction, SameUse}
+use Rattle.wat_types.specs.Prelude.{Production, seq, made, Label, label_view, label, FunctionTypeModel, at_func, function_view, heapless_function, TypeUseModel, use_view, heapless_use, type_use, SameFunction, SameUse, function_type_no_names}
 use Rattle.wat_types.specs.declared.function.FunctionType.{FunctionType}
 use Rattle.wat_types.specs.declared.type_use.TypeUse.{TypeUse}
-use Rattle.wat_types.specs.FunctionNoNames.{function_type_no_names}
 use Rattle.wat_operands.specs.declared.block.BlockType.{BlockType}
 
 -- ---- the type of a block or of a call
 
-abbrev pub signature_view : TypeUse FunctionType → UseTy FuncTy
+abbrev pub signature_view : TypeUse FunctionType → TypeUseModel FunctionTypeModel
 signature_view u = use_view function_view u
 
 -- has no inline type with a parameter or a result
-abbrev pub bare_signature : UseTy FuncTy → Bool
-bare_signature u = bare_use bare_function u
+abbrev pub heapless_signature : TypeUseModel FunctionTypeModel → Bool
+heapless_signature u = heapless_use heapless_function u
 
 -- a type use of a FunctionTypeNoNames
-abbrev pub signature : Production (UseTy FuncTy)
+abbrev pub signature : Production (TypeUseModel FunctionTypeModel)
 signature = type_use at_func function_type_no_names
 
 -- ---- blocks
 
 -- the type of a block, with its label
-pub record BlockTy : Type 0 where
+pub record BlockTypeModel : Type 0 where
   pub label : Label
-  pub ty : UseTy FuncTy
+  pub ty : TypeUseModel FunctionTypeModel
 
-abbrev pub block_of : Label → UseTy FuncTy → BlockTy
+abbrev pub block_of : Label → TypeUseModel FunctionTypeModel → BlockTypeModel
 block_of l t = record { label = l; ty = t }
 
-abbrev pub block_view : BlockType → BlockTy
+abbrev pub block_view : BlockType → BlockTypeModel
 block_view b = block_of (label_view b.label b.label_name) (signature_view b.ty)
 
 -- has no inline type with a parameter or a result
-abbrev pub bare_block : BlockTy → Bool
-bare_block b = bare_signature b.ty
+abbrev pub heapless_block : BlockTypeModel → Bool
+heapless_block b = heapless_signature b.ty
 
 -- id? name? TypeUse of FunctionTypeNoNames
-unfoldable pub block_type : Production BlockTy
+unfoldable pub block_type : Production BlockTypeModel
 block_type = made (λ v. block_of v.0 v.1) (seq label signature)
 
 -- the same label and name, and the same type

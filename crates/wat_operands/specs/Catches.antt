@@ -1,21 +1,14 @@
 -- The catch clauses of a `try_table`.
 use Rattle.std.specs.Prelude.{◌≡◌, Bool, List, codes, Option, Some, None, map}
-use Rattle.std.specs.Borrow.{LendsIf, MutBor, Fml, RattleType}
-use Rattle.wat_tokens.specs.Token.{Tok}
-use Rattle.wat_tokens.specs.Test.{Test, either_test, at_group, run}
-use Rattle.wat_tokens.specs.Production.{Production}
-use Rattle.wat_tokens.specs.Parts.{seq, made}
-use Rattle.wat_tokens.specs.Many.{many}
-use Rattle.wat_tokens.specs.Index.{index_view}
-use Rattle.wat_operands.specs.Block.{BlockTy, block_view, block_type, SameBlock}
-use Rattle.wat_operands.specs.contracts.catches.CatchKind as kinds
+use Rattle.wat_types.specs.Prelude.{LendsIf, MutBor, Fml, RattleType, Token, Test, either_test, at_group, run, Production, seq, made, many, index_view}
+use Rattle.wat_operands.specs.Block.{BlockTypeModel, block_view, block_type, SameBlock}
 use Rattle.wat_operands.specs.declared.catches.CatchKind.{CatchKind}
-use Rattle.wat_operands.specs.declared.catches.CatchKind.TheVariants.{Catch, CatchRef, CatchAll}
-use Rattle.wat_operands.specs.declared.catches.CatchKind.TheVariants.{CatchAllRef}
+use Rattle.wat_operands.specs.declared.catches.CatchKind.TheVariants.{Catch, CatchRef, CatchAll, CatchAllRef}
 use Rattle.wat_operands.specs.declared.catches.TryTable.{TryTable}
 use Rattle.wat_operands.specs.declared.catches.TryTableCatch.{TryTableCatch}
-use Rattle.wat_operands.specs.CatchClause.{CatchTy, catch_of, catch_clause}
+use Rattle.wat_operands.specs.CatchClause.{CatchModel, catch_of, catch_clause}
 use Rattle.wat_operands.specs.Laws.Catches.{catch_clause_consumes}
+use Rattle.wat_operands.specs.contracts.catches.CatchKind as kinds
 
 -- ---- the tag of a clause
 
@@ -45,18 +38,18 @@ catch_kind_view view (CatchRef x) = CatchRef (view x)
 catch_kind_view view CatchAll = CatchAll
 catch_kind_view view CatchAllRef = CatchAllRef
 
-abbrev pub catch_view : TryTableCatch → CatchTy
+abbrev pub catch_view : TryTableCatch → CatchModel
 catch_view c = catch_of (catch_kind_view index_view c.kind) (index_view c.label)
 
 -- a `try_table`, without positions
-pub record TryTy : Type 0 where
-  pub block : BlockTy
-  pub catches : List CatchTy
+pub record TryTableModel : Type 0 where
+  pub block : BlockTypeModel
+  pub catches : List CatchModel
 
-abbrev pub try_of : BlockTy → List CatchTy → TryTy
+abbrev pub try_of : BlockTypeModel → List CatchModel → TryTableModel
 try_of b cs = record { block = b; catches = cs }
 
-abbrev pub try_view : TryTable → TryTy
+abbrev pub try_view : TryTable → TryTableModel
 try_view t = try_of (block_view t.block.value) (map catch_view t.catches.items)
 
 -- ---- the grammar
@@ -66,11 +59,11 @@ abbrev pub at_catch : Test
 at_catch = either_test (either_test (at_group (codes "catch")) (at_group (codes "catch_ref")))
     (either_test (at_group (codes "catch_all")) (at_group (codes "catch_all_ref")))
 
-abbrev pub begins_catch : List Tok → Bool
+abbrev pub begins_catch : List Token → Bool
 begins_catch t = run at_catch t
 
 -- BlockType, and then clauses as long as a group begins with one of the four words
-unfoldable pub try_table : Production TryTy
+unfoldable pub try_table : Production TryTableModel
 try_table =
     made (λ v. try_of v.0 v.1) (seq block_type
     (many at_catch catch_clause catch_clause_consumes))

@@ -1,16 +1,9 @@
 -- Sample texts as tokens, and the operands that they spell.
 use Rattle.std.specs.Prelude.{[], ◌∷◌, ◌++◌, codes, Some, None}
-use Rattle.wat_tokens.specs.Token.{Keyword, Integer}
-use Rattle.wat_tokens.specs.Index.{number}
-use Rattle.wat_tokens.specs.Spelled.{in_parens, Spelled}
-use Rattle.wat_types.specs.Label.{no_label}
-use Rattle.wat_types.specs.Use.{use_of}
-use Rattle.wat_types.specs.Value.{i32, i64}
-use Rattle.wat_operands.specs.Catches.{try_of, try_table}
+use Rattle.wat_operands.specs.Prelude.{Keyword, Integer, number, in_parens, Spelled, no_label, use_of, i32, i64, try_table, resume_table, select_types}
+use Rattle.wat_operands.specs.Catches.{try_of}
 use Rattle.wat_operands.specs.CatchClause.{catch_of}
-use Rattle.wat_operands.specs.Handlers.{resume_table}
 use Rattle.wat_operands.specs.Handler.{on_label, on_switch}
-use Rattle.wat_operands.specs.Select.{select_types}
 use Rattle.wat_operands.specs.declared.catches.CatchKind.TheVariants.{Catch, CatchAllRef}
 
 -- `(catch 0 1) (catch_all_ref 2)`: tag 0 with label 1, and every exception with label 2

@@ -1,13 +1,7 @@
 -- Sample texts as tokens, and the operands that they spell.
 use Rattle.std.specs.Prelude.{◌≡◌, ℤ, true, false, List, [], ◌∷◌, ◌++◌, codes, Some, None}
-use Rattle.wat_tokens.specs.Token.{Keyword, Id, Integer}
-use Rattle.wat_tokens.specs.Index.{number, name}
-use Rattle.wat_tokens.specs.Spelled.{in_parens, Spelled}
-use Rattle.wat_operands.specs.Lanes.{lane_of, access_of, lane_arg, lane_access}
-use Rattle.wat_operands.specs.Memory.{memory, array, mem_arg, atomic_mem_arg}
-use Rattle.wat_operands.specs.Ordering.{ordered}
-use Rattle.wat_operands.specs.Tables.{init, copy, index_or_0}
-use Rattle.wat_operands.specs.Vector.{bytes_of, v128_const}
+use Rattle.wat_operands.specs.Prelude.{Keyword, Id, Integer, number, name, in_parens, Spelled, access_of, lane_arg, lane_access, memory, array, mem_arg, atomic_mem_arg, ordered, init, copy, index_or_0, bytes_of, v128_const}
+use Rattle.wat_operands.specs.Lanes.{lane_of}
 use Rattle.wat_operands.specs.declared.memory.MemArgOrdering.TheVariants.{Op, Rmw}
 use Rattle.wat_operands.specs.declared.ordering.Ordering.TheVariants.{AcqRel, SeqCst}
 use Rattle.wat_operands.specs.declared.vector.V128Const.TheVariants.{I32x4}

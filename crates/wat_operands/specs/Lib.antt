@@ -35,3 +35,4 @@ pub mod ResultGroup
 pub mod Select
 pub mod Tables
 pub mod Vector
+pub mod Prelude

@@ -1,9 +1,6 @@
 -- Orderings of atomic accesses, and operands after an ordering.
 use Rattle.std.specs.Prelude.{Bool, List, codes}
-use Rattle.wat_tokens.specs.Token.{Tok}
-use Rattle.wat_tokens.specs.Test.{Test, either_test, at_word, run}
-use Rattle.wat_tokens.specs.Production.{Production}
-use Rattle.wat_tokens.specs.Parts.{word, seq, made, where_else}
+use Rattle.wat_types.specs.Prelude.{Token, Test, either_test, at_word, run, Production, word, seq, made, where_else}
 use Rattle.wat_operands.specs.declared.ordering.Ordered.{Ordered}
 use Rattle.wat_operands.specs.declared.ordering.Ordering.{Ordering}
 use Rattle.wat_operands.specs.declared.ordering.Ordering.TheVariants.{AcqRel, SeqCst}
@@ -17,7 +14,7 @@ ordering =
 abbrev pub at_ordering : Test
 at_ordering = either_test (at_word (codes "seqcst")) (at_word (codes "acqrel"))
 
-abbrev pub begins_ordering : List Tok → Bool
+abbrev pub begins_ordering : List Token → Bool
 begins_ordering t = run at_ordering t
 
 -- the ordering, and the given view of the operand after it

@@ -1,10 +1,7 @@
 -- A group of results.
 use Rattle.std.specs.Prelude.{List, codes}
-use Rattle.wat_tokens.specs.Production.{Production}
-use Rattle.wat_tokens.specs.Groups.{group}
-use Rattle.wat_types.specs.Group.{val_types}
-use Rattle.wat_types.specs.Value.{ValTy}
+use Rattle.wat_types.specs.Prelude.{Production, group, val_types, ValTypeModel}
 
 -- ( result ValType* )
-abbrev pub result_group : Production (List ValTy)
+abbrev pub result_group : Production (List ValTypeModel)
 result_group = group (codes "result") val_types

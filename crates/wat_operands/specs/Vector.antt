@@ -1,18 +1,9 @@
 -- Constants of 128 bits, and the lanes of a shuffle.
-use Rattle.std.specs.Prelude.{ℕ, ◌%◌, ◌^◌, Bool, true, ◌&&◌, List, [], ◌∷◌, ◌++◌, codes, map}
-use Rattle.std.specs.Prelude.{flat_map, ⊤}
-use Rattle.std.specs.Int.{Width, w8, w16, w32, w64, cast_unsigned, to_le_bytes}
-use Rattle.wat_tokens.specs.Test.{at_word}
-use Rattle.wat_tokens.specs.Production.{Production}
-use Rattle.wat_tokens.specs.Parts.{word, seq, made, where_else}
-use Rattle.wat_tokens.specs.Integers.{unsigned, signed}
-use Rattle.wat_tokens.specs.Floats.{none}
-use Rattle.wat_tokens.specs.declared.floats.F32.{F32}
-use Rattle.wat_tokens.specs.declared.floats.F64.{F64}
+use Rattle.std.specs.Prelude.{ℕ, ◌%◌, ◌^◌, Bool, true, ◌&&◌, List, [], ◌∷◌, ◌++◌, codes, map, flat_map, ⊤}
+use Rattle.wat_types.specs.Prelude.{Width, w8, w16, w32, w64, cast_unsigned, to_le_bytes, at_word, Production, word, seq, made, where_else, unsigned, signed, none, F32, F64}
 use Rattle.wat_operands.specs.declared.vector.I8x16Shuffle.{I8x16Shuffle}
 use Rattle.wat_operands.specs.declared.vector.V128Const.{V128Const}
-use Rattle.wat_operands.specs.declared.vector.V128Const.TheVariants.{I8x16, I16x8, I32x4, I64x2}
-use Rattle.wat_operands.specs.declared.vector.V128Const.TheVariants.{F32x4, F64x2}
+use Rattle.wat_operands.specs.declared.vector.V128Const.TheVariants.{I8x16, I16x8, I32x4, I64x2, F32x4, F64x2}
 
 -- ---- a number of values
 
@@ -37,10 +28,10 @@ module _ {A : Type 0} where
   unfoldable pub sixteen : Production A → Production (List A)
   sixteen g = twice (eight g)
 
--- each of the values is bare
-abbrev pub all_bare : {A : Type 0} → (A → Bool) → List A → Bool
-all_bare bare [] = true
-all_bare bare (v ∷ vs) = bare v && all_bare bare vs
+-- each of the values is heapless
+abbrev pub all_heapless : {A : Type 0} → (A → Bool) → List A → Bool
+all_heapless heapless [] = true
+all_heapless heapless (v ∷ vs) = heapless v && all_heapless heapless vs
 
 -- ---- constants
 

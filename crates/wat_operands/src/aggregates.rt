@@ -1,13 +1,8 @@
 //! Operands of instructions on structures, arrays and continuations: indices, and a length.
 
 ghost use Rattle.std.specs.Prelude.{ℕ};
-ghost use Rattle.wat_tokens.specs.Index.{Idx, index};
-ghost use Rattle.wat_tokens.specs.Views.{plain};
-ghost use Rattle.wat_operands.specs.Aggregates.{struct_access_view, cont_bind_view, switch_view};
-ghost use Rattle.wat_operands.specs.Aggregates.{array_fill_view, array_copy_view};
-ghost use Rattle.wat_operands.specs.Aggregates.{array_init_view, array_new_fixed_view};
-ghost use Rattle.wat_operands.specs.Aggregates.{array_new_data_view, array_new_elem_view};
-ghost use Rattle.wat_operands.specs.Aggregates.{array_of_length};
+ghost use Rattle.wat_types.specs.Prelude.{IndexModel, index, plain};
+ghost use Rattle.wat_operands.specs.Aggregates.{struct_access_view, cont_bind_view, switch_view, array_fill_view, array_copy_view, array_init_view, array_new_fixed_view, array_new_data_view, array_new_elem_view, array_of_length};
 ghost use Rattle.wat_operands.specs.Tables.{index_pair};
 
 use crate::tables::index_pair;
@@ -130,7 +125,7 @@ pub type ArrayNewElem<'a> = ArrayNewElemOf<Index<'a>>;
 
 /// A structure type, and a field.
 impl<'a> Parse<'a> for StructAccess<'a> {
-    ghost View = { Idx × Idx };
+    ghost View = { IndexModel × IndexModel };
 
     ghost view = { plain struct_access_view };
 
@@ -144,7 +139,7 @@ impl<'a> Parse<'a> for StructAccess<'a> {
 
 /// The continuation type of the argument, and the continuation type of the result.
 impl<'a> Parse<'a> for ContBind<'a> {
-    ghost View = { Idx × Idx };
+    ghost View = { IndexModel × IndexModel };
 
     ghost view = { plain cont_bind_view };
 
@@ -161,7 +156,7 @@ impl<'a> Parse<'a> for ContBind<'a> {
 
 /// A continuation type, and a tag.
 impl<'a> Parse<'a> for Switch<'a> {
-    ghost View = { Idx × Idx };
+    ghost View = { IndexModel × IndexModel };
 
     ghost view = { plain switch_view };
 
@@ -178,7 +173,7 @@ impl<'a> Parse<'a> for Switch<'a> {
 
 /// An array type.
 impl<'a> Parse<'a> for ArrayFill<'a> {
-    ghost View = { Idx };
+    ghost View = { IndexModel };
 
     ghost view = { plain array_fill_view };
 
@@ -192,7 +187,7 @@ impl<'a> Parse<'a> for ArrayFill<'a> {
 
 /// The destination array type, and the source array type.
 impl<'a> Parse<'a> for ArrayCopy<'a> {
-    ghost View = { Idx × Idx };
+    ghost View = { IndexModel × IndexModel };
 
     ghost view = { plain array_copy_view };
 
@@ -209,7 +204,7 @@ impl<'a> Parse<'a> for ArrayCopy<'a> {
 
 /// An array type, and a segment.
 impl<'a> Parse<'a> for ArrayInit<'a> {
-    ghost View = { Idx × Idx };
+    ghost View = { IndexModel × IndexModel };
 
     ghost view = { plain array_init_view };
 
@@ -224,7 +219,7 @@ impl<'a> Parse<'a> for ArrayInit<'a> {
 /// An array type, and the length, an unsigned number of 32 bits. Returns Range, at the number, if
 /// the number has a `-` or is too large.
 impl<'a> Parse<'a> for ArrayNewFixed<'a> {
-    ghost View = { Idx × ℕ };
+    ghost View = { IndexModel × ℕ };
 
     ghost view = { plain array_new_fixed_view };
 
@@ -240,7 +235,7 @@ impl<'a> Parse<'a> for ArrayNewFixed<'a> {
 
 /// An array type, and a data segment.
 impl<'a> Parse<'a> for ArrayNewData<'a> {
-    ghost View = { Idx × Idx };
+    ghost View = { IndexModel × IndexModel };
 
     ghost view = { plain array_new_data_view };
 
@@ -254,7 +249,7 @@ impl<'a> Parse<'a> for ArrayNewData<'a> {
 
 /// An array type, and an element segment.
 impl<'a> Parse<'a> for ArrayNewElem<'a> {
-    ghost View = { Idx × Idx };
+    ghost View = { IndexModel × IndexModel };
 
     ghost view = { plain array_new_elem_view };
 

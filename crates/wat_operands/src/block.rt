@@ -1,11 +1,7 @@
 //! Block types.
 
-ghost use Rattle.std.specs.Prelude.{◌≡◌};
-ghost use Rattle.wat_tokens.specs.Copies.{Copies};
-ghost use Rattle.wat_tokens.specs.Reads.{Reads};
-ghost use Rattle.wat_tokens.specs.Views.{owning};
-ghost use Rattle.wat_operands.specs.Block.{signature_view, bare_signature, signature, BlockTy};
-ghost use Rattle.wat_operands.specs.Block.{block_view, bare_block, block_type, SameBlock};
+ghost use Rattle.wat_types.specs.Prelude.{Copies, Reads, owning};
+ghost use Rattle.wat_operands.specs.Block.{signature_view, heapless_signature, signature, BlockTypeModel, block_view, heapless_block, block_type, SameBlock};
 
 use wat_tokens::{Fault, Id, NameAnnotation, Parse, Parser, Result};
 use wat_types::{FunctionType, FunctionTypeNoNames, TypeUse, take_label};
@@ -25,7 +21,7 @@ pub struct BlockType<'a> {
 /// Parses a type use of a [`FunctionTypeNoNames`], and returns a type use of a [`FunctionType`].
 #[tactic(auto, using(crate::proofs::ViewWithNames::view_with_names))]
 pub(crate) fn read_signature<'a>(parser: &mut Parser<'a>) -> Result<TypeUse<'a, FunctionType<'a>>>
-    ensures reads { Reads (owning signature_view bare_signature) signature result parser.old
+    ensures reads { Reads (owning signature_view heapless_signature) signature result parser.old
         parser.new }
 {
     let found = TypeUse::<FunctionTypeNoNames>::parse(parser)?;
@@ -35,7 +31,7 @@ pub(crate) fn read_signature<'a>(parser: &mut Parser<'a>) -> Result<TypeUse<'a, 
 impl<'a> BlockType<'a> {
     /// Returns a copy. Returns Memory only if the inline type has a parameter or a result.
     pub fn clone(&self) -> Result<BlockType<'a>>
-        ensures copies { Copies SameBlock (owning block_view bare_block) result self.now }
+        ensures copies { Copies SameBlock (owning block_view heapless_block) result self.now }
     {
         Ok(BlockType {
             label: self.label,
@@ -47,9 +43,9 @@ impl<'a> BlockType<'a> {
 
 /// An optional label, an optional `@name` annotation, and a type use of a [`FunctionTypeNoNames`].
 impl<'a> Parse<'a> for BlockType<'a> {
-    ghost View = { BlockTy };
+    ghost View = { BlockTypeModel };
 
-    ghost view = { owning block_view bare_block };
+    ghost view = { owning block_view heapless_block };
 
     ghost grammar = { block_type };
 

@@ -1,9 +1,8 @@
 //! The operand of `br_table`.
 
 ghost use Rattle.std.specs.Prelude.{◌≡◌, ◌≢◌, [], ◌∷◌, ◌++◌};
-ghost use Rattle.wat_tokens.specs.Copies.{Copies};
-ghost use Rattle.wat_tokens.specs.Views.{owning};
-ghost use Rattle.wat_operands.specs.Branch.{BrTableTy, br_table_view, bare_br_table};
+ghost use Rattle.wat_types.specs.Prelude.{Copies, owning};
+ghost use Rattle.wat_operands.specs.Branch.{BrTableModel, br_table_view, heapless_br_table};
 ghost use Rattle.wat_operands.specs.BranchTable.{br_table};
 
 use wat_tokens::repeat::while_begun;
@@ -26,7 +25,7 @@ impl<'a> BrTableIndices<'a> {
     /// Returns a copy. Returns Memory only if `labels` isn't empty.
     pub fn clone(&self) -> Result<BrTableIndices<'a>>
         ensures copies { Copies (λ x y. (y.labels.items ≡ x.labels.items) × (y.default ≡ x.default))
-            (owning br_table_view bare_br_table) result self.now }
+            (owning br_table_view heapless_br_table) result self.now }
     {
         let mut labels = Vec::new(*self.labels.allocator());
         labels.extend_from_slice(&self.labels)?;
@@ -50,9 +49,9 @@ fn take_last<'a>(indices: &mut Vec<Index<'a>>) -> Index<'a>
 
 /// One or more indices. The last index is `default`, and the others are `labels`.
 impl<'a> Parse<'a> for BrTableIndices<'a> {
-    ghost View = { BrTableTy };
+    ghost View = { BrTableModel };
 
-    ghost view = { owning br_table_view bare_br_table };
+    ghost view = { owning br_table_view heapless_br_table };
 
     ghost grammar = { br_table };
 

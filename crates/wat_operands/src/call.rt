@@ -1,9 +1,7 @@
 //! The operand of an indirect call.
 
-ghost use Rattle.std.specs.Prelude.{◌≡◌};
-ghost use Rattle.wat_tokens.specs.Copies.{Copies};
-ghost use Rattle.wat_tokens.specs.Views.{owning};
-ghost use Rattle.wat_operands.specs.Call.{CallTy, call_view, bare_call, call_indirect, SameCall};
+ghost use Rattle.wat_types.specs.Prelude.{Copies, owning};
+ghost use Rattle.wat_operands.specs.Call.{CallIndirectModel, call_view, heapless_call, call_indirect, SameCall};
 
 use crate::block::read_signature;
 use crate::tables::index_or_0;
@@ -24,7 +22,7 @@ pub struct CallIndirect<'a> {
 impl<'a> CallIndirect<'a> {
     /// Returns a copy. Returns Memory only if the inline type has a parameter or a result.
     pub fn clone(&self) -> Result<CallIndirect<'a>>
-        ensures copies { Copies SameCall (owning call_view bare_call) result self.now }
+        ensures copies { Copies SameCall (owning call_view heapless_call) result self.now }
     {
         Ok(CallIndirect {
             table: self.table,
@@ -35,9 +33,9 @@ impl<'a> CallIndirect<'a> {
 
 /// An optional index, and a type use of a function type without parameter names.
 impl<'a> Parse<'a> for CallIndirect<'a> {
-    ghost View = { CallTy };
+    ghost View = { CallIndirectModel };
 
-    ghost view = { owning call_view bare_call };
+    ghost view = { owning call_view heapless_call };
 
     ghost grammar = { call_indirect };
 

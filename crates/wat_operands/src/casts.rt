@@ -1,12 +1,8 @@
 //! Casts of references, and branches on them (WebAssembly Core Specification, Text Format,
 //! Instructions, "Reference Instructions" and "Control Instructions").
 
-ghost use Rattle.wat_operands.specs.Casts.{test_view, cast_view, cast_desc_eq_view, BranchTy};
-ghost use Rattle.wat_operands.specs.Casts.{branch_view, branch_fail_view, branch_desc_eq_view};
-ghost use Rattle.wat_operands.specs.Casts.{branch_desc_eq_fail_view, branch_between, cast_branch};
-ghost use Rattle.wat_types.specs.Reference.{RefTy, ref_type};
-ghost use Rattle.wat_tokens.specs.Reads.{Reads};
-ghost use Rattle.wat_tokens.specs.Views.{plain};
+ghost use Rattle.wat_types.specs.Prelude.{RefTypeModel, ref_type, Reads, plain};
+ghost use Rattle.wat_operands.specs.Casts.{test_view, cast_view, cast_desc_eq_view, CastBranchModel, branch_view, branch_fail_view, branch_desc_eq_view, branch_desc_eq_fail_view, branch_between, cast_branch};
 
 use wat_tokens::{Index, Parse, Parser, Result};
 use wat_types::RefType;
@@ -78,7 +74,7 @@ pub struct BrOnCastDescEqFail<'a> {
 
 /// A reference type.
 impl<'a> Parse<'a> for RefTest<'a> {
-    ghost View = { RefTy };
+    ghost View = { RefTypeModel };
 
     ghost view = { plain test_view };
 
@@ -93,7 +89,7 @@ impl<'a> Parse<'a> for RefTest<'a> {
 
 /// A reference type.
 impl<'a> Parse<'a> for RefCast<'a> {
-    ghost View = { RefTy };
+    ghost View = { RefTypeModel };
 
     ghost view = { plain cast_view };
 
@@ -108,7 +104,7 @@ impl<'a> Parse<'a> for RefCast<'a> {
 
 /// A reference type.
 impl<'a> Parse<'a> for RefCastDescEq<'a> {
-    ghost View = { RefTy };
+    ghost View = { RefTypeModel };
 
     ghost view = { plain cast_desc_eq_view };
 
@@ -135,7 +131,7 @@ fn branch<'a>(parser: &mut Parser<'a>) -> Result<(Index<'a>, RefType<'a>, RefTyp
 
 /// A label, the type to cast from and the type to cast to.
 impl<'a> Parse<'a> for BrOnCast<'a> {
-    ghost View = { BranchTy };
+    ghost View = { CastBranchModel };
 
     ghost view = { plain branch_view };
 
@@ -153,7 +149,7 @@ impl<'a> Parse<'a> for BrOnCast<'a> {
 
 /// A label, the type to cast from and the type to cast to.
 impl<'a> Parse<'a> for BrOnCastFail<'a> {
-    ghost View = { BranchTy };
+    ghost View = { CastBranchModel };
 
     ghost view = { plain branch_fail_view };
 
@@ -171,7 +167,7 @@ impl<'a> Parse<'a> for BrOnCastFail<'a> {
 
 /// A label, the type to cast from and the type to cast to.
 impl<'a> Parse<'a> for BrOnCastDescEq<'a> {
-    ghost View = { BranchTy };
+    ghost View = { CastBranchModel };
 
     ghost view = { plain branch_desc_eq_view };
 
@@ -189,7 +185,7 @@ impl<'a> Parse<'a> for BrOnCastDescEq<'a> {
 
 /// A label, the type to cast from and the type to cast to.
 impl<'a> Parse<'a> for BrOnCastDescEqFail<'a> {
-    ghost View = { BranchTy };
+    ghost View = { CastBranchModel };
 
     ghost view = { plain branch_desc_eq_fail_view };
 

@@ -1,16 +1,9 @@
 //! The operand of `try_table`, with its catch clauses.
 
-ghost use Rattle.std.specs.Borrow.{sem};
-ghost use Rattle.std.specs.Option.{option_map};
 ghost use Rattle.std.specs.Prelude.{◌≡◌, false};
-ghost use Rattle.wat_operands.specs.Catches.{caught_tag, LendsTag, catch_kind_view, catch_view};
-ghost use Rattle.wat_operands.specs.Catches.{begins_catch};
-ghost use Rattle.wat_operands.specs.Catches.{TryTy, try_view, try_table, SameTry};
-ghost use Rattle.wat_operands.specs.CatchClause.{CatchTy, catch_kind, catch_clause};
-ghost use Rattle.wat_tokens.specs.Copies.{Copies};
-ghost use Rattle.wat_tokens.specs.Index.{index_view};
-ghost use Rattle.wat_tokens.specs.Reads.{Reads};
-ghost use Rattle.wat_tokens.specs.Views.{plain, owning};
+ghost use Rattle.wat_types.specs.Prelude.{option_map, sem, Copies, index_view, Reads, plain, owning};
+ghost use Rattle.wat_operands.specs.Catches.{caught_tag, LendsTag, catch_kind_view, catch_view, begins_catch, TryTableModel, try_view, try_table, SameTry};
+ghost use Rattle.wat_operands.specs.CatchClause.{CatchModel, catch_kind, catch_clause};
 
 use crate::block::BlockType;
 use wat_tokens::repeat::{Part, parts};
@@ -93,7 +86,7 @@ fn read_catch_kind<'a>(parser: &mut Parser<'a>) -> Result<TryTableCatchKind<'a>>
 struct Clause;
 
 impl<'a> Part<'a, TryTableCatch<'a>> for Clause {
-    ghost View = { CatchTy };
+    ghost View = { CatchModel };
 
     ghost view = { plain catch_view };
 
@@ -134,7 +127,7 @@ impl<'a> TryTable<'a> {
 /// `catch_all_ref`. It is an error if such a group isn't a valid clause, for example if its label
 /// is missing.
 impl<'a> Parse<'a> for TryTable<'a> {
-    ghost View = { TryTy };
+    ghost View = { TryTableModel };
 
     ghost view = { owning try_view (λ _. false) };
 

@@ -1,13 +1,9 @@
 //! Handler tables, and the operands that have a handler table.
 
 ghost use Rattle.std.specs.Prelude.{◌≡◌, List};
-ghost use Rattle.wat_operands.specs.Handlers.{handle_view, begins_handler, resume_table_view};
-ghost use Rattle.wat_operands.specs.Handlers.{resume_table, ResumeTy, resume_view};
-ghost use Rattle.wat_operands.specs.Handlers.{resume_throw_ref_view, bare_resume, resume, ThrowTy};
-ghost use Rattle.wat_operands.specs.Handlers.{resume_throw_view, bare_throw, resume_throw};
-ghost use Rattle.wat_operands.specs.Handler.{HandleTy, handler};
-ghost use Rattle.wat_tokens.specs.Copies.{Copies};
-ghost use Rattle.wat_tokens.specs.Views.{plain, owning, no_items};
+ghost use Rattle.wat_types.specs.Prelude.{Copies, plain, owning, no_items};
+ghost use Rattle.wat_operands.specs.Handlers.{handle_view, begins_handler, resume_table_view, resume_table, ResumeModel, resume_view, resume_throw_ref_view, heapless_resume, resume, ResumeThrowModel, resume_throw_view, heapless_throw, resume_throw};
+ghost use Rattle.wat_operands.specs.Handler.{HandleModel, handler};
 
 use wat_tokens::repeat::{Part, parts};
 use wat_tokens::{Fault, Index, Parse, Parser, Result};
@@ -90,7 +86,7 @@ pub type ResumeThrowRef<'a> = ResumeThrowRefOf<Index<'a>>;
 struct Handler;
 
 impl<'a> Part<'a, Handle<'a>> for Handler {
-    ghost View = { HandleTy };
+    ghost View = { HandleModel };
 
     ghost view = { plain handle_view };
 
@@ -136,7 +132,7 @@ impl<'a> ResumeTable<'a> {
 
 /// All groups that begin with `on`. It is an error if such a group isn't a valid handler.
 impl<'a> Parse<'a> for ResumeTable<'a> {
-    ghost View = { List HandleTy };
+    ghost View = { List HandleModel };
 
     ghost view = { owning resume_table_view no_items };
 
@@ -154,7 +150,7 @@ impl<'a> Resume<'a> {
     /// Returns a copy. Returns Memory only if the value has a handler.
     pub fn clone(&self) -> Result<Resume<'a>>
         ensures copies { Copies (λ x y. (y.type_index ≡ x.type_index) ×
-            (y.table.handlers.items ≡ x.table.handlers.items)) (owning resume_view bare_resume)
+            (y.table.handlers.items ≡ x.table.handlers.items)) (owning resume_view heapless_resume)
             result self.now }
     {
         Ok(Resume {
@@ -166,9 +162,9 @@ impl<'a> Resume<'a> {
 
 /// An index, and a [`ResumeTable`].
 impl<'a> Parse<'a> for Resume<'a> {
-    ghost View = { ResumeTy };
+    ghost View = { ResumeModel };
 
-    ghost view = { owning resume_view bare_resume };
+    ghost view = { owning resume_view heapless_resume };
 
     ghost grammar = { resume };
 
@@ -185,7 +181,7 @@ impl<'a> ResumeThrow<'a> {
     pub fn clone(&self) -> Result<ResumeThrow<'a>>
         ensures copies { Copies (λ x y. (y.type_index ≡ x.type_index) × (y.tag_index ≡ x.tag_index)
             × (y.table.handlers.items ≡ x.table.handlers.items))
-            (owning resume_throw_view bare_throw) result self.now }
+            (owning resume_throw_view heapless_throw) result self.now }
     {
         Ok(ResumeThrow {
             type_index: self.type_index,
@@ -197,9 +193,9 @@ impl<'a> ResumeThrow<'a> {
 
 /// Two indices, and a [`ResumeTable`].
 impl<'a> Parse<'a> for ResumeThrow<'a> {
-    ghost View = { ThrowTy };
+    ghost View = { ResumeThrowModel };
 
-    ghost view = { owning resume_throw_view bare_throw };
+    ghost view = { owning resume_throw_view heapless_throw };
 
     ghost grammar = { resume_throw };
 
@@ -221,7 +217,7 @@ impl<'a> ResumeThrowRef<'a> {
     pub fn clone(&self) -> Result<ResumeThrowRef<'a>>
         ensures copies { Copies (λ x y. (y.type_index ≡ x.type_index) ×
             (y.table.handlers.items ≡ x.table.handlers.items))
-            (owning resume_throw_ref_view bare_resume) result self.now }
+            (owning resume_throw_ref_view heapless_resume) result self.now }
     {
         Ok(ResumeThrowRef {
             type_index: self.type_index,
@@ -232,9 +228,9 @@ impl<'a> ResumeThrowRef<'a> {
 
 /// An index, and a [`ResumeTable`].
 impl<'a> Parse<'a> for ResumeThrowRef<'a> {
-    ghost View = { ResumeTy };
+    ghost View = { ResumeModel };
 
-    ghost view = { owning resume_throw_ref_view bare_resume };
+    ghost view = { owning resume_throw_ref_view heapless_resume };
 
     ghost grammar = { resume };
 

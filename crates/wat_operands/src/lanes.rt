@@ -1,11 +1,8 @@
 //! Lanes of vectors, and the operands of loads and stores of one lane.
 
 ghost use Rattle.std.specs.Prelude.{◌≡◌};
-ghost use Rattle.wat_tokens.specs.Lookup.{in_front};
-ghost use Rattle.wat_tokens.specs.Reads.{Reads};
-ghost use Rattle.wat_tokens.specs.Views.{plain};
-ghost use Rattle.wat_operands.specs.Lanes.{lane_arg, goes_on, is_alone, lane_access_view};
-ghost use Rattle.wat_operands.specs.Lanes.{lane_access};
+ghost use Rattle.wat_types.specs.Prelude.{in_front, Reads, plain};
+ghost use Rattle.wat_operands.specs.Lanes.{lane_arg, goes_on, is_alone, lane_access_view, lane_access};
 
 use crate::memory::{MemArg, MemArgTarget, begins_with};
 use crate::tables::zero;

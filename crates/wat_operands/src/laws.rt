@@ -1,8 +1,7 @@
 //! Sample token lists that spell operands, as contracts. The functions do nothing: only their
 //! contracts matter.
 
-ghost use Rattle.wat_operands.specs.ImmediateRows.{Accesses, AtomicAccesses, LaneAccesses};
-ghost use Rattle.wat_operands.specs.ImmediateRows.{TableInits, TableCopies, Vector, OrderedTable};
+ghost use Rattle.wat_operands.specs.ImmediateRows.{Accesses, AtomicAccesses, LaneAccesses, TableInits, TableCopies, Vector, OrderedTable};
 ghost use Rattle.wat_operands.specs.GroupRows.{Catches, Handlers, Selects};
 
 /// Sample token lists that spell operands of indices and numbers. The facts use only the

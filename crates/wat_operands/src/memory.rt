@@ -1,14 +1,9 @@
 //! The operand of a memory access: its target, offset, alignment and memory ordering.
 
 ghost use Rattle.std.specs.Prelude.{◌≡◌, ◌≢◌, None, Some, option_map, MatchResult};
-ghost use Rattle.wat_tokens.specs.Lookup.{in_front};
-ghost use Rattle.wat_tokens.specs.Number.{unsigned_value};
-ghost use Rattle.wat_tokens.specs.Reads.{Reads};
-ghost use Rattle.wat_tokens.specs.Views.{plain};
-ghost use Rattle.wat_operands.specs.Memory.{target_view, target, begins_with, offset_or_0, align};
-ghost use Rattle.wat_operands.specs.Memory.{align_or, mem_arg_view, mem_arg, atomic_mem_arg};
+ghost use Rattle.wat_types.specs.Prelude.{in_front, unsigned_value, Reads, plain, past_front};
+ghost use Rattle.wat_operands.specs.Memory.{target_view, target, begins_with, offset_or_0, align, align_or, mem_arg_view, mem_arg, atomic_mem_arg};
 ghost use Rattle.wat_operands.specs.Align.{field};
-ghost use Rattle.wat_tokens.specs.Kind.{past_front};
 
 use crate::ordering::Ordering;
 use crate::tables::index_or_0;

@@ -65,7 +65,7 @@ impl<'a, T: Parse<'a> + Drop> Parse<'a> for Ordered<T> {
 
     ghost View = { Ordering × T.View };
 
-    ghost view = { holding T.view (ordered_view T.view.of) (λ v. T.view.bare v.1) };
+    ghost view = { holding T.view (ordered_view T.view.of) (λ v. T.view.heapless v.1) };
 
     ghost cost = { T.cost };
 

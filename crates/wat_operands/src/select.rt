@@ -1,12 +1,9 @@
 //! The operand of `select`.
 
-ghost use Rattle.std.specs.Prelude.{◌≡◌, List, Option};
-ghost use Rattle.wat_tokens.specs.Copies.{Copies};
-ghost use Rattle.wat_tokens.specs.Views.{plain, owning};
-ghost use Rattle.wat_operands.specs.Select.{select_view, bare_select, result_follows, select_types};
-ghost use Rattle.wat_operands.specs.Select.{SameTypes};
+ghost use Rattle.std.specs.Prelude.{List, Option};
+ghost use Rattle.wat_types.specs.Prelude.{Copies, plain, owning, ValTypeModel, val_view};
+ghost use Rattle.wat_operands.specs.Select.{select_view, heapless_select, result_follows, select_types, SameTypes};
 ghost use Rattle.wat_operands.specs.ResultGroup.{result_group};
-ghost use Rattle.wat_types.specs.Value.{ValTy, val_view};
 
 use wat_tokens::repeat::{Group, groups, rest_of_group};
 use wat_tokens::{Fault, Parse, Parser, Result};
@@ -24,7 +21,7 @@ pub struct SelectTypes<'a> {
 struct ResultGroup;
 
 impl<'a> Group<'a, ValType<'a>> for ResultGroup {
-    ghost View = { ValTy };
+    ghost View = { ValTypeModel };
 
     ghost view = { plain val_view };
 
@@ -49,7 +46,7 @@ impl<'a> Group<'a, ValType<'a>> for ResultGroup {
 impl<'a> SelectTypes<'a> {
     /// Returns a copy. Returns Memory only if `tys` has a type.
     pub fn clone(&self) -> Result<SelectTypes<'a>>
-        ensures copies { Copies (λ x y. SameTypes x.tys y.tys) (owning select_view bare_select)
+        ensures copies { Copies (λ x y. SameTypes x.tys y.tys) (owning select_view heapless_select)
             result self.now }
     {
         match &self.tys {
@@ -66,9 +63,9 @@ impl<'a> SelectTypes<'a> {
 /// Groups `( result ValType* )`, as long as the second token is `result`, for any first token.
 /// `tys` is None if no group follows, and otherwise the types of all groups.
 impl<'a> Parse<'a> for SelectTypes<'a> {
-    ghost View = { Option (List ValTy) };
+    ghost View = { Option (List ValTypeModel) };
 
-    ghost view = { owning select_view bare_select };
+    ghost view = { owning select_view heapless_select };
 
     ghost grammar = { select_types };
 

@@ -1,13 +1,8 @@
 //! Operands with tables, memories and segments.
 
 ghost use Rattle.std.specs.Prelude.{◌≡◌};
-ghost use Rattle.wat_tokens.specs.Index.{Idx, number, index_view};
-ghost use Rattle.wat_tokens.specs.Reads.{Reads};
-ghost use Rattle.wat_tokens.specs.Views.{plain};
-ghost use Rattle.wat_operands.specs.Tables.{index_or_0, index_pair, table_arg_view};
-ghost use Rattle.wat_operands.specs.Tables.{memory_arg_view, init, table_init_view};
-ghost use Rattle.wat_operands.specs.Tables.{memory_init_view, copy, table_copy_view};
-ghost use Rattle.wat_operands.specs.Tables.{memory_copy_view};
+ghost use Rattle.wat_types.specs.Prelude.{IndexModel, number, index_view, Reads, plain};
+ghost use Rattle.wat_operands.specs.Tables.{index_or_0, index_pair, table_arg_view, memory_arg_view, init, table_init_view, memory_init_view, copy, table_copy_view, memory_copy_view};
 
 use wat_tokens::{Index, Parse, Parser, Result};
 
@@ -144,7 +139,7 @@ fn destination_and_source<'a>(parser: &mut Parser<'a>) -> Result<(Index<'a>, Ind
 
 /// An optional index; the default is table 0.
 impl<'a> Parse<'a> for TableArg<'a> {
-    ghost View = { Idx };
+    ghost View = { IndexModel };
 
     ghost view = { plain table_arg_view };
 
@@ -159,7 +154,7 @@ impl<'a> Parse<'a> for TableArg<'a> {
 
 /// An optional index; the default is memory 0.
 impl<'a> Parse<'a> for MemoryArg<'a> {
-    ghost View = { Idx };
+    ghost View = { IndexModel };
 
     ghost view = { plain memory_arg_view };
 
@@ -175,7 +170,7 @@ impl<'a> Parse<'a> for MemoryArg<'a> {
 /// A table and an element segment if the second token is an identifier or an integer. Otherwise an
 /// element segment; the table is 0.
 impl<'a> Parse<'a> for TableInit<'a> {
-    ghost View = { Idx × Idx };
+    ghost View = { IndexModel × IndexModel };
 
     ghost view = { plain table_init_view };
 
@@ -190,7 +185,7 @@ impl<'a> Parse<'a> for TableInit<'a> {
 /// A memory and a data segment if the second token is an identifier or an integer. Otherwise a data
 /// segment; the memory is 0.
 impl<'a> Parse<'a> for MemoryInit<'a> {
-    ghost View = { Idx × Idx };
+    ghost View = { IndexModel × IndexModel };
 
     ghost view = { plain memory_init_view };
 
@@ -204,7 +199,7 @@ impl<'a> Parse<'a> for MemoryInit<'a> {
 
 /// A destination and a source. If the next token isn't an index, both are table 0.
 impl<'a> Parse<'a> for TableCopy<'a> {
-    ghost View = { Idx × Idx };
+    ghost View = { IndexModel × IndexModel };
 
     ghost view = { plain table_copy_view };
 
@@ -218,7 +213,7 @@ impl<'a> Parse<'a> for TableCopy<'a> {
 
 /// A destination and a source. If the next token isn't an index, both are memory 0.
 impl<'a> Parse<'a> for MemoryCopy<'a> {
-    ghost View = { Idx × Idx };
+    ghost View = { IndexModel × IndexModel };
 
     ghost view = { plain memory_copy_view };
 

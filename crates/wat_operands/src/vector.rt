@@ -1,12 +1,8 @@
 //! The operands of `v128.const` and `i8x16.shuffle`.
 
 ghost use Rattle.std.specs.Prelude.{◌≡◌, ◌%◌, [], ◌∷◌, ◌++◌, map, flat_map};
-ghost use Rattle.std.specs.Int.{w16, w32, w64, to_le_bytes};
-ghost use Rattle.wat_tokens.specs.Reads.{Reads, ReadsAt};
-ghost use Rattle.wat_tokens.specs.Views.{plain, holding};
-ghost use Rattle.wat_operands.specs.Vector.{two, four, eight, sixteen, all_bare, float_const};
-ghost use Rattle.wat_operands.specs.Vector.{wide_const, v128_const, bytes_of, lane_bits};
-ghost use Rattle.wat_operands.specs.Vector.{SameShape, shuffle};
+ghost use Rattle.wat_types.specs.Prelude.{w16, w32, w64, to_le_bytes, Reads, ReadsAt, plain, holding};
+ghost use Rattle.wat_operands.specs.Vector.{two, four, eight, sixteen, all_heapless, float_const, wide_const, v128_const, bytes_of, lane_bits, SameShape, shuffle};
 ghost use Rattle.wat_operands.specs.declared.vector.V128Const.{V128Const};
 
 use wat_tokens::{F32, F64, Parse, Parser, Result};
@@ -71,7 +67,7 @@ fn join_8<T: Copy>(a: [T; 8], b: [T; 8]) -> [T; 16]
 /// Parses two values.
 #[tactic(auto, unfolding(crate::specs::Vector::two))]
 fn two<'a, T: Parse<'a> + Copy>(parser: &mut Parser<'a>) -> Result<[T; 2]>
-    ensures reads { ReadsAt T.cost (holding T.view (map T.view.of) (all_bare T.view.bare))
+    ensures reads { ReadsAt T.cost (holding T.view (map T.view.of) (all_heapless T.view.heapless))
         (two T.grammar) result parser.old parser.new }
 {
     let first = T::parse(parser)?;
@@ -82,7 +78,7 @@ fn two<'a, T: Parse<'a> + Copy>(parser: &mut Parser<'a>) -> Result<[T; 2]>
 /// Parses four values.
 #[tactic(auto, using(crate::proofs::Again::map_both), unfolding(crate::specs::Vector::four))]
 fn four<'a, T: Parse<'a> + Copy>(parser: &mut Parser<'a>) -> Result<[T; 4]>
-    ensures reads { ReadsAt T.cost (holding T.view (map T.view.of) (all_bare T.view.bare))
+    ensures reads { ReadsAt T.cost (holding T.view (map T.view.of) (all_heapless T.view.heapless))
         (four T.grammar) result parser.old parser.new }
 {
     let first = two::<T>(parser)?;
@@ -93,7 +89,7 @@ fn four<'a, T: Parse<'a> + Copy>(parser: &mut Parser<'a>) -> Result<[T; 4]>
 /// Parses eight values.
 #[tactic(auto, using(crate::proofs::Again::map_both), unfolding(crate::specs::Vector::eight))]
 fn eight<'a, T: Parse<'a> + Copy>(parser: &mut Parser<'a>) -> Result<[T; 8]>
-    ensures reads { ReadsAt T.cost (holding T.view (map T.view.of) (all_bare T.view.bare))
+    ensures reads { ReadsAt T.cost (holding T.view (map T.view.of) (all_heapless T.view.heapless))
         (eight T.grammar) result parser.old parser.new }
 {
     let first = four::<T>(parser)?;
@@ -104,7 +100,7 @@ fn eight<'a, T: Parse<'a> + Copy>(parser: &mut Parser<'a>) -> Result<[T; 8]>
 /// Parses sixteen values.
 #[tactic(auto, using(crate::proofs::Again::map_both), unfolding(crate::specs::Vector::sixteen))]
 fn sixteen<'a, T: Parse<'a> + Copy>(parser: &mut Parser<'a>) -> Result<[T; 16]>
-    ensures reads { ReadsAt T.cost (holding T.view (map T.view.of) (all_bare T.view.bare))
+    ensures reads { ReadsAt T.cost (holding T.view (map T.view.of) (all_heapless T.view.heapless))
         (sixteen T.grammar) result parser.old parser.new }
 {
     let first = eight::<T>(parser)?;

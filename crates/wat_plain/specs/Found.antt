@@ -1,23 +1,20 @@
 -- What readers return.
 use Rattle.std.specs.Prelude.{◌≡◌, List, Some, None}
-use Rattle.wat_tokens.specs.Token.{Tok}
-use Rattle.wat_tokens.specs.Production.{Read}
-use Rattle.wat_instr.specs.Instruction.{Instr}
-use Rattle.wat_expr.specs.Items.{Items}
+use Rattle.wat_expr.specs.Prelude.{Token, Read, InstructionModel, Items}
 use Rattle.wat_plain.specs.Seen.{seen, instr_at}
 use Rattle.wat_plain.specs.declared.found.Found.{Found}
-use Rattle.wat_plain.specs.declared.found.Found.TheVariants as found
 use Rattle.wat_plain.specs.declared.found.FoundInstruction.{FoundInstruction}
+use Rattle.wat_plain.specs.declared.found.Found.TheVariants as found
 use Rattle.wat_plain.specs.declared.found.FoundInstruction.TheVariants as instr
 
 -- The items are those that are read, and `left` is the rest. Or none are read, or memory ran out.
-abbrev pub Finds : Found → Read Items → List Tok → Type 0
+abbrev pub Finds : Found → Read Items → List Token → Type 0
 Finds (found.Items xs) read left = read ≡ Some (seen xs.now, left)
 Finds found.Nothing read left = read ≡ None
 Finds found.NoMemory read left = Unit {0}
 
 -- the same of an instruction
-abbrev pub FindsInstruction : FoundInstruction → Read Instr → List Tok → Type 0
+abbrev pub FindsInstruction : FoundInstruction → Read InstructionModel → List Token → Type 0
 FindsInstruction (instr.Instruction i) read left = read ≡ Some (instr_at i, left)
 FindsInstruction instr.Nothing read left = read ≡ None
 FindsInstruction instr.NoMemory read left = Unit {0}

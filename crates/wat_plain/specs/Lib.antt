@@ -11,3 +11,4 @@ pub mod Appends
 pub mod Found
 pub mod Parts
 pub mod Seen
+pub mod Prelude

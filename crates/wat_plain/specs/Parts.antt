@@ -1,78 +1,72 @@
 -- The parts of the reader of items, in the order of a program.
 use Rattle.std.specs.Prelude.{ℕ, nat_lt, if◌then◌else◌, List, [], ◌∷◌, Some, None, codes}
-use Rattle.wat_tokens.specs.Token.{Tok}
-use Rattle.wat_tokens.specs.Production.{Read, bind, some_of}
-use Rattle.wat_tokens.specs.PartSpells.{one_reads}
-use Rattle.wat_tokens.specs.Tests.{as_lparen, as_string, annotation_only}
-use Rattle.wat_instr.specs.Instruction.{Instr, instruction}
-use Rattle.wat_expr.specs.Items.{Sort, sort, IsBlock, IsIf, IsOther, Items, Plain, Folded}
-use Rattle.wat_expr.specs.Items.{Block, IfThen, IfElse, Hinted}
-use Rattle.wat_expr.specs.Reading.{are_groups, begins_branch, closed, opened, more_by}
+use Rattle.wat_expr.specs.Prelude.{Token, Read, bind, some_of, one_reads, as_lparen, InstructionModel, instruction, Sort, sort, IsBlock, IsIf, IsOther, Items, Plain, Folded, Block, IfThen, IfElse, Hinted, are_groups, begins_branch, closed, opened, more_by}
+use Rattle.wat_tokens.specs.Tests.{as_string, annotation_only}
 
 -- ---- hints
 
 -- a byte, 0 or 1
-abbrev pub bit_of : List ℕ → List Tok → Read ℕ
+abbrev pub bit_of : List ℕ → List Token → Read ℕ
 bit_of (v ∷ []) r = if nat_lt v 2 then Some (v, r) else None
 bit_of _ r = None
 
-abbrev pub bit : List Tok → Read ℕ
+abbrev pub bit : List Token → Read ℕ
 bit t = bind (one_reads as_string t) bit_of
 
 -- the value of a hint
-abbrev pub hint : List Tok → Read ℕ
+abbrev pub hint : List Token → Read ℕ
 hint t =
     bind (one_reads as_lparen t)
     (λ _ a. bind (one_reads (annotation_only (codes "metadata.code.branch_hint")) a)
     (λ _ b. bind (bit b) (λ v c. bind (closed c) (λ _ d. some_of (v, d)))))
 
-module _ (rec : List Tok → Read Items) where
-  abbrev pub hinted_by : List Tok → Read Items
+module _ (rec : List Token → Read Items) where
+  abbrev pub hinted_by : List Token → Read Items
   hinted_by t =
       bind (hint t)
       (λ v d. bind (rec d) (λ xs r. if begins_branch xs then Some (Hinted v xs, r) else None))
 
   -- ---- items
 
-  abbrev pub plain_by : List Tok → Read Items
+  abbrev pub plain_by : List Token → Read Items
   plain_by t = bind (instruction.reads t) (λ i m. more_by rec (Plain i) m)
 
   -- items and `)`
-  abbrev pub enclosed_by : List Tok → Read Items
+  abbrev pub enclosed_by : List Token → Read Items
   enclosed_by t = bind (rec t) (λ ys u. bind (closed u) (λ _ d. some_of (ys, d)))
 
   -- items and `)`, and the items after them
-  abbrev pub folded_by : (Items → Items → Items) → List Tok → Read Items
+  abbrev pub folded_by : (Items → Items → Items) → List Token → Read Items
   folded_by f t = bind (enclosed_by t) (λ ys d. more_by rec (f ys) d)
 
   -- an arm of an `if`
-  abbrev pub arm_by : List ℕ → List Tok → Read Items
+  abbrev pub arm_by : List ℕ → List Token → Read Items
   arm_by w t = bind (opened w t) (λ _ d. enclosed_by d)
 
   -- the second arm of an `if` and the `)` of its group
-  abbrev pub else_by : List Tok → Read Items
+  abbrev pub else_by : List Token → Read Items
   else_by t = bind (arm_by (codes "else") t) (λ el u. bind (closed u) (λ _ d. some_of (el, d)))
 
   -- the rest of the group of an `if` after its first arm, by whether a `)` is next
-  abbrev pub other_on : Instr → Items → Items → Read (Unit {0}) → List Tok → Read Items
+  abbrev pub other_on : InstructionModel → Items → Items → Read (Unit {0}) → List Token → Read Items
   other_on i ops th (Some x) t = more_by rec (IfThen i ops th) x.1
   other_on i ops th None t = bind (else_by t) (λ el d. more_by rec (IfElse i ops th el) d)
 
-  abbrev pub other_by : Instr → Items → Items → List Tok → Read Items
+  abbrev pub other_by : InstructionModel → Items → Items → List Token → Read Items
   other_by i ops th t = other_on i ops th (closed t) t
 
   -- the rest of the group of an `if` after its instruction
-  abbrev pub if_by : Instr → List Tok → Read Items
+  abbrev pub if_by : InstructionModel → List Token → Read Items
   if_by i t =
       bind (rec t) (λ ops u. if are_groups ops then bind (arm_by (codes "then") u)
       (λ th v. other_by i ops th v) else None)
 
   -- the rest of a group after its instruction
-  abbrev pub sort_by : Sort → Instr → List Tok → Read Items
+  abbrev pub sort_by : Sort → InstructionModel → List Token → Read Items
   sort_by IsOther i t = folded_by (Folded i) t
   sort_by IsBlock i t = folded_by (Block i) t
   sort_by IsIf i t = if_by i t
 
   -- the rest of a group after its `(`
-  abbrev pub group_by : List Tok → Read Items
+  abbrev pub group_by : List Token → Read Items
   group_by t = bind (instruction.reads t) (λ i b. sort_by (sort i) i b)

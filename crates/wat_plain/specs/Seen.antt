@@ -1,17 +1,15 @@
 -- Items and instructions as contracts see them.
-use Rattle.std.specs.Borrow.{Bor}
 use Rattle.std.specs.Prelude.{None}
-use Rattle.wat_mnemonics.specs.declared.indexed.LabelOp.{LabelOp}
+use Rattle.wat_expr.specs.Prelude.{Bor, LabelOp, Instruction, InstructionModel, instr_of, instruction_view}
+use Rattle.wat_plain.specs.declared.taking.Sort.{Sort}
+use Rattle.wat_plain.specs.declared.tree.Items.{Items}
 use Rattle.wat_mnemonics.specs.declared.op.Op.TheVariants as ops
-use Rattle.wat_instr.specs.Instruction.{Instruction, Instr, instr_of, instruction_view}
 use Rattle.wat_instr.specs.Operand as operands
 use Rattle.wat_expr.specs.Items as items
-use Rattle.wat_plain.specs.declared.taking.Sort.{Sort}
 use Rattle.wat_plain.specs.declared.taking.Sort.TheVariants as sorts
-use Rattle.wat_plain.specs.declared.tree.Items.{Items}
 use Rattle.wat_plain.specs.declared.tree.Items.TheVariants as tree
 
-abbrev pub instr_at : Bor Instruction → Instr
+abbrev pub instr_at : Bor Instruction → InstructionModel
 instr_at i = instruction_view i.now
 
 -- the items that the tree is
@@ -27,7 +25,7 @@ seen (tree.IfElse' i p ops q th r el s xs) =
 seen (tree.Hinted' v p xs) = items.Hinted v (seen xs)
 
 -- `else` or `end` without a label
-abbrev pub label : LabelOp → Instr
+abbrev pub label : LabelOp → InstructionModel
 label op = instr_of (ops.Label op) (operands.label None)
 
 -- what the group of an instruction holds

@@ -1,8 +1,7 @@
 //! The hints of items.
 
 ghost use Rattle.std.specs.Prelude.{◌≡◌, ◌+◌, ◌++◌, map, length, IfOk, None};
-ghost use Rattle.wat_expr.specs.Expression.{hint_view};
-ghost use Rattle.wat_expr.specs.Items.{unfolded, mark, hints_behind, hints};
+ghost use Rattle.wat_expr.specs.Prelude.{hint_view, unfolded, mark, hints_behind, hints};
 ghost use Rattle.wat_plain.specs.Appends.{OrMemory, Appends};
 ghost use Rattle.wat_plain.specs.Seen.{seen};
 

@@ -1,16 +1,11 @@
 //! The reader of items. Each function reads a part of the definition `items_at`.
 
 ghost use Rattle.std.specs.Prelude.{◌≡◌, ◌≢◌, suc, length, None, Some, IfOk, MatchResult};
-ghost use Rattle.wat_expr.specs.Expression.{value_of};
-ghost use Rattle.wat_expr.specs.Items.{Folded, Block};
-ghost use Rattle.wat_expr.specs.Reading.{items_by, items_at, expression_reads};
-ghost use Rattle.wat_instr.specs.Instruction.{instruction_view};
+ghost use Rattle.wat_expr.specs.Prelude.{value_of, Folded, Block, items_by, items_at, expression_reads, instruction_view, Memory};
 ghost use Rattle.wat_plain.specs.Appends.{OrMemory};
 ghost use Rattle.wat_plain.specs.Found.{Finds};
-ghost use Rattle.wat_plain.specs.Parts.{plain_by, hinted_by, group_by, folded_by};
-ghost use Rattle.wat_plain.specs.Parts.{enclosed_by, arm_by, else_by, if_by, other_by};
+ghost use Rattle.wat_plain.specs.Parts.{plain_by, hinted_by, group_by, folded_by, enclosed_by, arm_by, else_by, if_by, other_by};
 ghost use Rattle.wat_plain.specs.Seen.{seen};
-ghost use Rattle.wat_tokens.specs.Error.{Memory};
 
 use crate::found::{Found, FoundInstruction};
 use crate::hinting::later;

@@ -1,16 +1,10 @@
 //! Readers of single tokens, of a hint and of an instruction, and tests of items.
 
-ghost use Rattle.std.specs.Prelude.{◌≡◌, List, drop, if◌then◌else◌, None, Some, MatchBool};
-ghost use Rattle.std.specs.Prelude.{MatchOption};
-ghost use Rattle.wat_expr.specs.Items.{sort};
-ghost use Rattle.wat_expr.specs.Reading.{are_groups, begins_branch, closed, opened};
-ghost use Rattle.wat_instr.specs.Instruction.{instruction, instruction_view};
+ghost use Rattle.std.specs.Prelude.{◌≡◌, List, drop, if◌then◌else◌, None, Some, MatchBool, MatchOption};
+ghost use Rattle.wat_expr.specs.Prelude.{sort, are_groups, begins_branch, closed, opened, instruction, instruction_view, some_of, begins_lparen, Token};
 ghost use Rattle.wat_plain.specs.Found.{Finds, FindsInstruction};
 ghost use Rattle.wat_plain.specs.Parts.{bit, hint};
 ghost use Rattle.wat_plain.specs.Seen.{seen, sort_seen};
-ghost use Rattle.wat_tokens.specs.Production.{some_of};
-ghost use Rattle.wat_tokens.specs.Tests.{begins_lparen};
-ghost use Rattle.wat_tokens.specs.Token.{Tok};
 
 use crate::found::{Found, FoundInstruction};
 use crate::keep::keep;
@@ -88,7 +82,7 @@ pub fn take_instruction<'a>(parser: &mut Parser<'a>, arena: &'a Bump) -> FoundIn
 
 /// Puts items into the arena.
 pub fn keep_items<'a>(arena: &'a Bump, items: Items<'a>) -> Found<'a>
-    ensures { (left : List Tok) → Finds result (some_of (seen items.entry, left)) left }
+    ensures { (left : List Token) → Finds result (some_of (seen items.entry, left)) left }
 {
     match keep(arena, items) {
         Ok(kept) => Found::Items(kept),

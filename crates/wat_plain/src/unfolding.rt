@@ -1,8 +1,7 @@
 //! The instructions of items as one flat list.
 
 ghost use Rattle.std.specs.Prelude.{◌≡◌, ◌∷◌, ◌++◌, [], map, length};
-ghost use Rattle.wat_expr.specs.Items.{unfolded};
-ghost use Rattle.wat_instr.specs.Instruction.{instruction_view};
+ghost use Rattle.wat_expr.specs.Prelude.{unfolded, instruction_view};
 ghost use Rattle.wat_plain.specs.Appends.{OrMemory, Appends};
 ghost use Rattle.wat_plain.specs.Seen.{seen, instr_at, label};
 

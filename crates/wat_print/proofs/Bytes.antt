@@ -1,8 +1,6 @@
 -- Bytes of a slice.
-use Rattle.std.specs.Prelude.{◌≡◌, ℕ, zero, suc, ◌<◌, true, List, [], ◌∷◌, slice_index}
-use Rattle.std.proofs.Common.{refl}
-use Rattle.wat_print.specs.Laws.Bytes.{byte_is}
-use Rattle.wat_print.specs.Strings.{printable_string}
+use Rattle.std.specs.Prelude.{◌≡◌, ℕ, zero, suc, ◌<◌, true, List, [], ◌∷◌, slice_index, refl}
+use Rattle.wat_print.specs.Laws.Prelude.{byte_is, printable_string}
 
 pub bytes_printable : (s : List ℕ) → ((i : ℕ) → slice_index s i < 256) → printable_string s ≡ true
 bytes_printable [] h = refl

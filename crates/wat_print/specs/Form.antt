@@ -1,17 +1,14 @@
 -- Forms: how values are written. Forms combine as productions do.
 -- Example: `seq_form (flag_form w) index_form` writes the keyword w if the flag is true, and then
 -- the index.
-use Rattle.std.specs.Prelude.{Some, None, ◌≡◌, ℕ, Bool, true, false, not, ◌&&◌, ◌||◌, if◌then◌else◌}
-use Rattle.std.specs.Prelude.{List, [], ◌∷◌, ◌++◌, Option, flat_map, ◌⊎◌}
+use Rattle.std.specs.Prelude.{Some, None, ◌≡◌, ℕ, Bool, true, false, not, ◌&&◌, ◌||◌, if◌then◌else◌, List, [], ◌∷◌, ◌++◌, Option, flat_map, ◌⊎◌}
 use Rattle.std.proofs.Common.{inl, inr}
-use Rattle.wat_lexer.specs.Token.{Tok, LParen, RParen, Keyword}
-use Rattle.wat_tokens.specs.Spelled.{in_parens}
-use Rattle.wat_tokens.specs.Tests.{begins_word}
+use Rattle.wat_types.specs.Prelude.{Token, LParen, RParen, Keyword, in_parens, begins_word}
 use Rattle.wat_print.specs.Parts.{spell_option, if_some, each}
 
 -- a test of a list of tokens, usually of the rest
 abbrev pub Test : Type 0
-Test = List Tok → Bool
+Test = List Token → Bool
 
 -- passes for every rest
 abbrev pub any : Test
@@ -28,17 +25,17 @@ any r = true
 -- written tokens followed by any rest that passes `rest`. If `empty` is true, `test` must also pass
 -- on that rest.
 pub record Form (A : Type 0) : Type 1 where
-  pub spell : A → List Tok
+  pub spell : A → List Token
   pub printable : A → Bool
   pub ready : A → Bool
-  pub follows : List Tok → Bool
+  pub follows : List Token → Bool
   pub empty : Bool
   pub balanced : Bool
   pub Fronts : Test → Test → Type 0
 
 -- ---- one token
 
-abbrev pub token_form : {A : Type 0} → (A → Tok) → (A → Bool) → (Test → Test → Type 0) → Form A
+abbrev pub token_form : {A : Type 0} → (A → Token) → (A → Bool) → (Test → Test → Type 0) → Form A
 token_form token printable Fronts = record {
   spell = λ v. token v ∷ [];
   printable = printable;
@@ -51,7 +48,7 @@ token_form token printable Fronts = record {
 
 -- `test` passes on the word followed by any rest that passes `rest`
 abbrev pub OfWord : List ℕ → Test → Test → Type 0
-OfWord w rest test = (y : List Tok) → rest y ≡ true → test (Keyword w ∷ y) ≡ true
+OfWord w rest test = (y : List Token) → rest y ≡ true → test (Keyword w ∷ y) ≡ true
 
 abbrev pub word_form : List ℕ → Form (Unit {0})
 word_form w = token_form (λ _. Keyword w) (λ _. true) (OfWord w)
@@ -198,7 +195,7 @@ many_form begins p = record {
 
 abbrev pub ParenFronts : Bool → (Test → Test → Type 0) → Test → Type 0
 ParenFronts true F test =
-    F any (λ t. test (LParen ∷ t)) × ((y : List Tok) → test (LParen ∷ RParen ∷ y) ≡ true)
+    F any (λ t. test (LParen ∷ t)) × ((y : List Token) → test (LParen ∷ RParen ∷ y) ≡ true)
 ParenFronts false F test = F any (λ t. test (LParen ∷ t))
 
 -- ( .. )
@@ -222,7 +219,7 @@ turn_form = record {
   follows = any;
   empty = false;
   balanced = false;
-  Fronts = λ rest test. ((y : List Tok) → test (RParen ∷ LParen ∷ y) ≡ true);
+  Fronts = λ rest test. ((y : List Token) → test (RParen ∷ LParen ∷ y) ≡ true);
 }
 
 -- no tokens
@@ -243,7 +240,7 @@ abbrev pub before_unit : {A : Type 0} → A → A × Unit {0}
 before_unit a = (a, tt)
 
 -- the token, then p. `Fronts` is the condition on tests of tokens that begin with the token.
-abbrev pub led_form : {A : Type 0} → (Test → Type 0) → Tok → Form A → Form A
+abbrev pub led_form : {A : Type 0} → (Test → Type 0) → Token → Form A → Form A
 led_form Fronts t p = record {
   spell = λ v. t ∷ p.spell v;
   printable = p.printable;

@@ -1,20 +1,15 @@
 -- How labels are written, and lists of parts with optional labels: parameters and fields.
-use Rattle.std.specs.Prelude.{◌≡◌, ℕ, Bool, true, false, Option, not, ◌&&◌, if◌then◌else◌, List, []}
-use Rattle.std.specs.Prelude.{◌∷◌, codes, map, ◌⊎◌, flat_map, ◌||◌}
-use Rattle.wat_lexer.specs.Token.{Tok, Id}
-use Rattle.wat_types.specs.Label.{Label, labelled, begins_label}
-use Rattle.wat_tokens.specs.NameAnnotation.{begins_name}
-use Rattle.wat_tokens.specs.Tests.{begins_id, more}
+use Rattle.std.specs.Prelude.{◌≡◌, ℕ, Bool, true, false, Option, not, ◌&&◌, if◌then◌else◌, List, [], ◌∷◌, codes, map, ◌⊎◌, flat_map, ◌||◌}
 use Rattle.std.proofs.Common.{inl, inr}
+use Rattle.wat_types.specs.Prelude.{Token, Id, Label, labelled, begins_label, begins_name, begins_id, more}
 use Rattle.wat_print.specs.Annotation.{annotation_form}
-use Rattle.wat_print.specs.Form.{else_form, only_where_form, many_form, by_where, Test, Form}
-use Rattle.wat_print.specs.Form.{token_form, option_form, seq_form, by, paren_form}
+use Rattle.wat_print.specs.Form.{else_form, only_where_form, many_form, by_where, Test, Form, token_form, option_form, seq_form, by, paren_form}
 use Rattle.wat_print.specs.Parts.{each}
 use Rattle.wat_print.specs.Strings.{text_form}
 use Rattle.wat_print.specs.WellFormed.{is_name}
 
 abbrev pub OfIds : Test → Test → Type 0
-OfIds rest test = (n : List ℕ) (y : List Tok) → rest y ≡ true → test (Id n ∷ y) ≡ true
+OfIds rest test = (n : List ℕ) (y : List Token) → rest y ≡ true → test (Id n ∷ y) ≡ true
 
 abbrev pub id_form : Form (List ℕ)
 id_form = token_form (λ n. Id n) is_name OfIds

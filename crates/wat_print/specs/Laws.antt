@@ -23,3 +23,4 @@ pub mod Strings
 pub mod Struct
 pub mod Use
 pub mod Written
+pub mod Prelude

@@ -34,3 +34,4 @@ pub mod Strings
 pub mod Struct
 pub mod Text
 pub mod Use
+pub mod Prelude

@@ -1,15 +1,10 @@
 -- How limits, memory types and table types are written.
-use Rattle.std.specs.Prelude.{◌≡◌, ℕ, ◌^◌, Bool, true, false, nat_lt, List, ◌∷◌, Option, codes}
-use Rattle.std.specs.Prelude.{decimal, ◌⊎◌}
+use Rattle.std.specs.Prelude.{◌≡◌, ℕ, ◌^◌, Bool, true, false, nat_lt, List, ◌∷◌, Option, codes, decimal, ◌⊎◌}
 use Rattle.std.proofs.Common.{inl, inr}
-use Rattle.wat_lexer.specs.Token.{Tok, Integer}
-use Rattle.wat_tokens.specs.Tests.{begins_word, begins_group, begins_integer}
-use Rattle.wat_types.specs.Limits.{TableTy}
-use Rattle.wat_types.specs.Reference.{RefTy}
+use Rattle.wat_types.specs.Prelude.{Token, Integer, begins_word, begins_group, begins_integer, TableTypeModel, RefTypeModel}
 use Rattle.wat_types.specs.declared.limits.Limits.{Limits}
 use Rattle.wat_types.specs.declared.limits.MemoryType.{MemoryType}
-use Rattle.wat_print.specs.Form.{Test, Form, token_form, word_form, flag_form, seq_form}
-use Rattle.wat_print.specs.Form.{option_form, by, by_where, else_form, group_form, behind_form}
+use Rattle.wat_print.specs.Form.{Test, Form, token_form, word_form, flag_form, seq_form, option_form, by, by_where, else_form, group_form, behind_form}
 use Rattle.wat_print.specs.Parts.{spell_flag}
 use Rattle.wat_print.specs.Reference.{ref_form}
 
@@ -22,7 +17,7 @@ abbrev pub is_exponent : ℕ → Bool
 is_exponent k = nat_lt k 32
 
 abbrev pub OfIntegers : Test → Test → Type 0
-OfIntegers rest test = (x : List ℕ) (y : List Tok) → rest y ≡ true → test (Integer x ∷ y) ≡ true
+OfIntegers rest test = (x : List ℕ) (y : List Token) → rest y ≡ true → test (Integer x ∷ y) ≡ true
 
 abbrev pub number_form : Form ℕ
 number_form = token_form (λ n. Integer (decimal n)) is_u64 OfIntegers
@@ -61,9 +56,9 @@ abbrev pub memory_form : Form MemoryType
 memory_form =
     by memory_parts (seq_form limits_form (seq_form (flag_form (codes "shared")) page_form))
 
-abbrev pub table_parts : TableTy → Bool × (Limits × RefTy)
+abbrev pub table_parts : TableTypeModel → Bool × (Limits × RefTypeModel)
 table_parts t = (t.shared, (t.limits, t.elem))
 
-abbrev pub table_form : Form TableTy
+abbrev pub table_form : Form TableTypeModel
 table_form =
     by table_parts (seq_form (flag_form (codes "shared")) (seq_form limits_form ref_form))

@@ -1,11 +1,7 @@
 -- The facts about printing.
 use Rattle.std.specs.Prelude.{Result, OnOk, IfErr, ◌≢◌, ◌≡◌, ℕ, Bool, true, false, List, [], ◌++◌}
-use Rattle.std.specs.Str.{IsUtf8}
 use Rattle.std.proofs.Common.{subst}
-use Rattle.wat_lexer.specs.Cut.{IsCut}
-use Rattle.wat_lexer.specs.Sight.{visible_tokens}
-use Rattle.wat_lexer.specs.Token.{Tok, Placed, tokens_of}
-use Rattle.wat_tokens.specs.Production.{Production}
+use Rattle.wat_types.specs.Prelude.{IsUtf8, IsCut, visible_tokens, Token, Placed, tokens_of, Production}
 use Rattle.wat_print.specs.Form.{Form}
 use Rattle.wat_print.specs.Layout.{Writes}
 use Rattle.wat_print.specs.Parts.{each}
@@ -26,7 +22,7 @@ may_break Indented = true
 -- no tokens of any text spell the value
 abbrev pub NoneSpells : {A : Type 0} → Production A → A → Type 0
 NoneSpells g v =
-    (x : List ℕ) (ps : List Placed) (known : Bool) (b c r : List Tok) → IsUtf8 x → IsCut x ps
+    (x : List ℕ) (ps : List Placed) (known : Bool) (b c r : List Token) → IsUtf8 x → IsCut x ps
     → visible_tokens known (tokens_of ps) ≡ b ++ (c ++ r) → g.spells v c r → ⊥
 
 -- How the values of a production are printed.
@@ -36,11 +32,12 @@ NoneSpells g v =
 -- spells: the written tokens spell the value
 -- only: each value that tokens of a text spell is printable
 pub record Printing {A : Type 0} (g : Production A) : Type 0 where
-  pub spell : A → List Tok
+  pub spell : A → List Token
   pub printable : A → Bool
   pub well_formed : (v : A) → printable v ≡ true → WellFormed (spell v)
   pub spells : (v : A) → printable v ≡ true → g.spells v (spell v) []
-  pub only : (v : A) (c r : List Tok) → each is_given c ≡ true → g.spells v c r → printable v ≡ true
+  pub only : (v : A) (c r : List Token) → each is_given c ≡ true → g.spells v c r
+      → printable v ≡ true
 
 -- A call that writes v returned r. The page was a before the call, and is b after it.
 -- written: if r is Ok, the tokens of v were written
@@ -54,9 +51,9 @@ pub record Written {X A : Type 0} {g : Production A} (p : Printing g) (v : A) (r
   pub refused : IfErr r (λ e. e ≢ Memory → p.printable v ≡ false)
 
 -- the printing, if the written tokens spell the value before any rest
-abbrev pub printing_of : {A : Type 0} {g : Production A} (spell : A → List Tok)
+abbrev pub printing_of : {A : Type 0} {g : Production A} (spell : A → List Token)
     (printable : A → Bool) → ((v : A) → printable v ≡ true → WellFormed (spell v))
-    → ((v : A) → printable v ≡ true → (r : List Tok) → g.spells v (spell v) r)
+    → ((v : A) → printable v ≡ true → (r : List Token) → g.spells v (spell v) r)
     → OnlyPrintable g printable → Printing g
 printing_of spell printable well_formed here only = record {
   spell = spell;
@@ -67,7 +64,7 @@ printing_of spell printable well_formed here only = record {
 }
 
 -- the printing, if the written tokens spell the value before the empty rest
-abbrev pub printing_at_end : {A : Type 0} {g : Production A} (spell : A → List Tok)
+abbrev pub printing_at_end : {A : Type 0} {g : Production A} (spell : A → List Token)
     (printable : A → Bool) → ((v : A) → printable v ≡ true → WellFormed (spell v))
     → ((v : A) → printable v ≡ true → g.spells v (spell v) []) → OnlyPrintable g printable
     → Printing g

@@ -1,10 +1,7 @@
 -- The facts about a form and a production: the production reads the written tokens as the same
 -- value. The combinators of forms keep these facts.
-use Rattle.std.specs.Prelude.{flat_map, ◌≡◌, Bool, true, false, List, ◌∷◌, ◌++◌, Result, OnOk}
-use Rattle.std.specs.Prelude.{IfErr, ◌≢◌}
-use Rattle.wat_lexer.specs.Token.{Tok, RParen}
-use Rattle.wat_tokens.specs.Production.{Production}
-use Rattle.wat_tokens.specs.Spelled.{in_parens}
+use Rattle.std.specs.Prelude.{flat_map, ◌≡◌, Bool, true, false, List, ◌∷◌, ◌++◌, Result, OnOk, IfErr, ◌≢◌}
+use Rattle.wat_types.specs.Prelude.{Token, RParen, Production, in_parens}
 use Rattle.wat_print.specs.Form.{Form, Test}
 use Rattle.wat_print.specs.Layout.{Writes}
 use Rattle.wat_print.specs.Parts.{each}
@@ -14,35 +11,36 @@ use Rattle.wat_print.specs.declared.fault.Refused.{Refused}
 use Rattle.wat_print.specs.declared.fault.Refused.TheVariants.{Memory}
 
 -- the test passes on the rest, if a form may write no token before it
-abbrev pub Passes : Bool → Test → List Tok → Type 0
+abbrev pub Passes : Bool → Test → List Token → Type 0
 Passes true test r = test r ≡ true
 Passes false test r = Unit {0}
 
 -- the tokens after a `(`: well-formed tokens, the `)`, and further well-formed tokens
-abbrev pub Closes : List Tok → Type 0
-Closes x = (a : List Tok) × (r : List Tok) × (x ≡ a ++ (RParen ∷ r)) × WellFormed a × WellFormed r
+abbrev pub Closes : List Token → Type 0
+Closes x = (a : List Token) × (r : List Token) × (x ≡ a ++ (RParen ∷ r)) × WellFormed a
+    × WellFormed r
 
 -- If the flag is true, the tokens are well formed. If the flag is false, the tokens can be written
 -- inside a group: for each x, if `Closes x` holds, `Closes (ts ++ x)` holds.
-abbrev pub Nests : Bool → List Tok → Type 0
+abbrev pub Nests : Bool → List Token → Type 0
 Nests true ts = WellFormed ts
-Nests false ts = (x : List Tok) → Closes x → Closes (ts ++ x)
+Nests false ts = (x : List Token) → Closes x → Closes (ts ++ x)
 
 -- The production g reads the tokens that the form writes for a value as the view of this value.
 -- N: how the written tokens nest. The flag is `balanced` of the form.
 -- front: if the condition `Fronts` holds, the test passes on the written tokens and the rest
 -- here: before each rest in `follows`, the written tokens spell the view of the value
 -- only: each value that tokens of a text spell is the view of a printable value
-pub record UnparsesAs (N : Bool → List Tok → Type 0) {A B : Type 0} (form : Form A) (view : A → B)
+pub record UnparsesAs (N : Bool → List Token → Type 0) {A B : Type 0} (form : Form A) (view : A → B)
     (g : Production B)
     : Type 0 where
   pub nests : (a : A) → form.ready a ≡ true → N form.balanced (form.spell a)
-  pub front : (rest test : Test) → form.Fronts rest test → (a : A) (r : List Tok)
+  pub front : (rest test : Test) → form.Fronts rest test → (a : A) (r : List Token)
       → form.ready a ≡ true → rest r ≡ true → Passes form.empty test r
       → test (form.spell a ++ r) ≡ true
-  pub here : (a : A) (r : List Tok) → form.ready a ≡ true → form.follows r ≡ true
+  pub here : (a : A) (r : List Token) → form.ready a ≡ true → form.follows r ≡ true
       → g.spells (view a) (form.spell a) r
-  pub only : (b : B) (c r : List Tok) → each is_given c ≡ true → g.spells b c r
+  pub only : (b : B) (c r : List Token) → each is_given c ≡ true → g.spells b c r
       → (a : A) × (view a ≡ b) × (form.printable a ≡ true)
 
 -- the tokens of the form nest by themselves

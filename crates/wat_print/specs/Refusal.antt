@@ -1,10 +1,7 @@
 -- The numbers of the reasons to refuse a value.
 use Rattle.std.specs.Prelude.{ℕ}
 use Rattle.wat_print.specs.declared.fault.Refused.{Refused}
-use Rattle.wat_print.specs.declared.fault.Refused.TheVariants.{Memory, EmptyName, Label, PageSize}
-use Rattle.wat_print.specs.declared.fault.Refused.TheVariants.{Parents, Alignment, Ordering, Float}
-use Rattle.wat_print.specs.declared.fault.Refused.TheVariants.{Hint, Table, Section, Integer}
-use Rattle.wat_print.specs.declared.fault.Refused.TheVariants.{Folded}
+use Rattle.wat_print.specs.declared.fault.Refused.TheVariants.{Memory, EmptyName, Label, PageSize, Parents, Alignment, Ordering, Float, Hint, Table, Section, Integer, Folded}
 
 abbrev pub refused_number : Refused → ℕ
 refused_number Memory = 1

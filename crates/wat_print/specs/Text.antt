@@ -1,12 +1,7 @@
 -- The text of tokens.
-use Rattle.std.specs.Prelude.{ℕ, ◌/◌, ◌%◌, Bool, true, false, ◌&&◌, ◌||◌, if◌then◌else◌, nat_lt}
-use Rattle.std.specs.Prelude.{List, [], ◌∷◌, ◌++◌}
-use Rattle.std.specs.Char.{digit_char}
+use Rattle.std.specs.Prelude.{ℕ, ◌/◌, ◌%◌, Bool, true, false, ◌&&◌, ◌||◌, if◌then◌else◌, nat_lt, List, [], ◌∷◌, ◌++◌}
 use Rattle.std.specs.Str.{is_utf8}
-use Rattle.wat_lexer.specs.Bytes.{is_idchar}
-use Rattle.wat_lexer.specs.Cut.{is_raw}
-use Rattle.wat_lexer.specs.Token.{Tok, LParen, RParen, Keyword, Id, Annotation, Integer, String}
-use Rattle.wat_lexer.specs.Token.{Reserved, is_open, is_close}
+use Rattle.wat_types.specs.Prelude.{digit_char, is_idchar, is_raw, Token, LParen, RParen, Keyword, Id, Annotation, Integer, String, Reserved, is_open, is_close}
 
 -- ---- one token
 
@@ -36,7 +31,7 @@ all_are test (b ∷ r) = test b && all_are test r
 abbrev pub name_text : List ℕ → List ℕ
 name_text n = if all_are is_idchar n then n else 34 ∷ quoted n
 
-abbrev pub token_text : Tok → List ℕ
+abbrev pub token_text : Token → List ℕ
 token_text LParen = 40 ∷ []
 token_text RParen = 41 ∷ []
 token_text (Keyword k) = k
@@ -60,11 +55,11 @@ abbrev pub blank_page : Bool → Page
 blank_page lines = record { bytes = []; tight = true; lines = lines }
 
 -- the space before a token; no space at the start, after `(` and before `)`
-abbrev pub gap : Bool → Tok → List ℕ
+abbrev pub gap : Bool → Token → List ℕ
 gap tight t = if tight || is_close t then [] else 32 ∷ []
 
 -- appends a token
-abbrev pub put_one : Page → Tok → Page
+abbrev pub put_one : Page → Token → Page
 put_one p t =
     record {
       bytes = p.bytes ++ (gap p.tight t ++ token_text t);
@@ -73,10 +68,10 @@ put_one p t =
     }
 
 -- appends tokens
-abbrev pub put : Page → List Tok → Page
+abbrev pub put : Page → List Token → Page
 put p [] = p
 put p (t ∷ ts) = put (put_one p t) ts
 
 -- the text of tokens on one line
-abbrev pub printed_text : List Tok → List ℕ
+abbrev pub printed_text : List Token → List ℕ
 printed_text ts = (put (blank_page false) ts).bytes

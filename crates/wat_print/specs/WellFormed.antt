@@ -1,10 +1,7 @@
 -- Tokens that can be written, and tokens that occur in texts.
 use Rattle.std.specs.Prelude.{◌≡◌, ℕ, Bool, true, false, ◌&&◌, nat_lt, List, [], ◌∷◌, ◌++◌}
 use Rattle.std.specs.Str.{is_utf8}
-use Rattle.wat_lexer.specs.Bytes.{is_idchar, between}
-use Rattle.wat_lexer.specs.Number.{is_integer}
-use Rattle.wat_lexer.specs.Sight.{is_standard}
-use Rattle.wat_lexer.specs.Token.{Tok, LParen, RParen, Keyword, Id, Annotation, Integer, String}
+use Rattle.wat_types.specs.Prelude.{is_idchar, between, is_integer, is_standard, Token, LParen, RParen, Keyword, Id, Annotation, Integer, String}
 use Rattle.wat_print.specs.Text.{all_are}
 
 -- idchars, the first of which is a letter from a to z
@@ -21,7 +18,7 @@ is_name [] = false
 is_name (b ∷ r) = is_utf8 (b ∷ r)
 
 -- a token that can be written and is neither a parenthesis nor an annotation
-abbrev pub is_printable : Tok → Bool
+abbrev pub is_printable : Token → Bool
 is_printable (Keyword k) = is_keyword k
 is_printable (Id n) = is_name n
 is_printable (Integer k) = all_are is_idchar k && is_integer k
@@ -30,17 +27,17 @@ is_printable _ = false
 
 -- Tokens that can be written: parentheses nest, and each annotation is standard and directly after
 -- a `(`.
-pub data WellFormed : List Tok → Type 0 where
+pub data WellFormed : List Token → Type 0 where
   nothing : WellFormed []
-  token : (t : Tok) (r : List Tok) → is_printable t ≡ true → WellFormed r → WellFormed (t ∷ r)
-  group : (a r : List Tok) → WellFormed a → WellFormed r → WellFormed (LParen ∷ (a ++ RParen ∷ r))
-  noted : (n : List ℕ) (a r : List Tok) → is_name n ≡ true → is_standard n ≡ true → WellFormed a
+  token : (t : Token) (r : List Token) → is_printable t ≡ true → WellFormed r → WellFormed (t ∷ r)
+  group : (a r : List Token) → WellFormed a → WellFormed r → WellFormed (LParen ∷ (a ++ RParen ∷ r))
+  noted : (n : List ℕ) (a r : List Token) → is_name n ≡ true → is_standard n ≡ true → WellFormed a
       → WellFormed r
       → WellFormed (LParen ∷ (Annotation n ∷ (a ++ RParen ∷ r)))
 
 -- A token that can occur in a text: a name is UTF-8 and not empty, an integer has the syntax of
 -- integers, and each element of a string is a byte.
-abbrev pub is_given : Tok → Bool
+abbrev pub is_given : Token → Bool
 is_given (Id n) = is_name n
 is_given (Annotation n) = is_name n
 is_given (Integer k) = is_integer k

@@ -4,20 +4,11 @@
 //! they don't open.
 
 ghost use Rattle.std.specs.Prelude.{List, map, refl};
-ghost use Rattle.wat_tokens.specs.Index.{Idx, index_view, index, begins_index};
-ghost use Rattle.wat_tokens.specs.Tests.{second};
-ghost use Rattle.wat_tokens.specs.Views.{option_view};
-ghost use Rattle.wat_types.specs.Define.{InnerKindTy, inner_kind_view, kind, def_view, TypeTy};
-ghost use Rattle.wat_types.specs.Define.{type_view, type_, types_view, begins_type};
+ghost use Rattle.wat_print.specs.Laws.Prelude.{IndexModel, index_view, index, begins_index, second, option_view, type_view, type_form, rec_form, many_form, paren_form, index_form, printing_by, Printed, PrintedLines, index_prints};
+ghost use Rattle.wat_types.specs.Define.{InnerTypeKindModel, inner_kind_view, kind, def_view, TypeModel, type_, types_view, begins_type};
+ghost use Rattle.wat_print.specs.Define.{kind_form, link_form, core_parts, core_form, shared_parts, shared_form, def_form};
 ghost use Rattle.wat_types.specs.Recursion.{rec_view, rec};
-ghost use Rattle.wat_print.specs.Define.{kind_form, link_form, core_parts, core_form, shared_parts};
-ghost use Rattle.wat_print.specs.Define.{shared_form, def_form, type_form, rec_form};
-ghost use Rattle.wat_print.specs.Form.{many_form, paren_form};
-ghost use Rattle.wat_print.specs.Index.{index_form};
-ghost use Rattle.wat_print.specs.Printed.{printing_by};
-ghost use Rattle.wat_print.specs.Prints.{Printed, PrintedLines};
 ghost use Rattle.wat_print.specs.Laws.Define.{kind_prints, rec_prints, type_prints};
-ghost use Rattle.wat_print.specs.Laws.Reference.{index_prints};
 
 use crate::fault::Refused;
 use crate::function::write_function;
@@ -113,7 +104,7 @@ fn write_indices(out: &mut Output, indices: &[Index]) -> Result<(), Refused>
 /// Writes a definition without its parentheses. A definition that has supertypes but no `sub` is
 /// refused with Parents.
 #[tactic(auto, using(crate::specs::Laws::Written::put_both))]
-fn write_bare_def(out: &mut Output, def: &TypeDef) -> Result<(), Refused>
+fn write_inside_def(out: &mut Output, def: &TypeDef) -> Result<(), Refused>
     ensures { Printed def_form (def_view def.now) result out.old out.new }
 {
     match def.final_type {
@@ -137,7 +128,7 @@ pub fn write_def(out: &mut Output, def: &TypeDef) -> Result<(), Refused>
     ensures { Printed (paren_form def_form) (def_view def.now) result out.old out.new }
 {
     out.open()?;
-    write_bare_def(out, def)?;
+    write_inside_def(out, def)?;
     out.close()
 }
 
@@ -182,7 +173,7 @@ pub fn write_rec(out: &mut Output, group: &Rec) -> Result<(), Refused>
 }
 
 impl Print for ContType<'_> {
-    ghost View = { Idx };
+    ghost View = { IndexModel };
 
     ghost view = { λ c. index_view c.0 };
 
@@ -197,7 +188,7 @@ impl Print for ContType<'_> {
 }
 
 impl Print for InnerTypeKind<'_> {
-    ghost View = { InnerKindTy };
+    ghost View = { InnerTypeKindModel };
 
     ghost view = { inner_kind_view };
 
@@ -212,7 +203,7 @@ impl Print for InnerTypeKind<'_> {
 }
 
 impl Print for Type<'_> {
-    ghost View = { TypeTy };
+    ghost View = { TypeModel };
 
     ghost view = { type_view };
 
@@ -227,7 +218,7 @@ impl Print for Type<'_> {
 }
 
 impl Print for Rec<'_> {
-    ghost View = { List TypeTy };
+    ghost View = { List TypeModel };
 
     ghost view = { rec_view };
 

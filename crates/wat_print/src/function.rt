@@ -1,16 +1,9 @@
 //! How function types are printed.
 
 ghost use Rattle.std.specs.Prelude.{◌≡◌, map, refl};
-ghost use Rattle.wat_tokens.specs.Tests.{more};
-ghost use Rattle.wat_types.specs.Function.{function_view, params_view, param_view, function_type};
-ghost use Rattle.wat_types.specs.Group.{FuncTy};
-ghost use Rattle.wat_types.specs.Value.{val_view};
-ghost use Rattle.wat_print.specs.Form.{many_form};
-ghost use Rattle.wat_print.specs.Function.{param_label, param_form, param_alone_form, vals_form};
-ghost use Rattle.wat_print.specs.Function.{param_groups_form, result_groups_form, function_form};
-ghost use Rattle.wat_print.specs.Label.{none_labelled};
-ghost use Rattle.wat_print.specs.Printed.{printing_by};
-ghost use Rattle.wat_print.specs.Prints.{Printed};
+ghost use Rattle.wat_types.specs.Prelude.{function_view, params_view, val_view};
+ghost use Rattle.wat_print.specs.Prelude.{more, param_view, function_type, FunctionTypeModel, many_form, param_label, param_form, vals_form, none_labelled, printing_by, Printed};
+ghost use Rattle.wat_print.specs.Function.{param_alone_form, param_groups_form, result_groups_form, function_form};
 ghost use Rattle.wat_print.specs.Laws.Function.{function_prints};
 
 use crate::fault::Refused;
@@ -146,7 +139,7 @@ pub(crate) fn write_function(out: &mut Output, function: &FunctionType) -> Resul
 }
 
 impl Print for FunctionType<'_> {
-    ghost View = { FuncTy };
+    ghost View = { FunctionTypeModel };
 
     ghost view = { function_view };
 

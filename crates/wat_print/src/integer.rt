@@ -1,9 +1,8 @@
 //! How integers are printed.
 
 ghost use Rattle.std.specs.Prelude.{List, ℕ};
+ghost use Rattle.wat_types.specs.Prelude.{is_integer, integer};
 ghost use Rattle.wat_lexer.specs.Integer.{text_of};
-ghost use Rattle.wat_lexer.specs.Number.{is_integer};
-ghost use Rattle.wat_tokens.specs.Integers.{integer};
 ghost use Rattle.wat_print.specs.Integer.{spell_integer};
 ghost use Rattle.wat_print.specs.Printed.{printing_of};
 ghost use Rattle.wat_print.specs.Laws.Integer.{integer_here, integer_only, integer_well_formed};

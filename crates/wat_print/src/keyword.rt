@@ -1,10 +1,7 @@
 //! How keywords are printed.
 
 ghost use Rattle.std.specs.Prelude.{codes, refl};
-ghost use Rattle.wat_tokens.specs.Parts.{word};
-ghost use Rattle.wat_print.specs.Form.{word_form};
-ghost use Rattle.wat_print.specs.Printed.{printing_by};
-ghost use Rattle.wat_print.specs.Laws.Form.{word_prints};
+ghost use Rattle.wat_print.specs.Laws.Prelude.{word, word_form, printing_by, word_prints};
 
 use crate::fault::Refused;
 use crate::output::Output;

@@ -1,15 +1,9 @@
 //! How labels are printed.
 
 ghost use Rattle.std.specs.Prelude.{ℕ, List, refl};
-ghost use Rattle.wat_tokens.specs.Index.{name_of, identifier};
-ghost use Rattle.wat_tokens.specs.NameAnnotation.{name_annotation, begins_name};
-ghost use Rattle.wat_tokens.specs.Tests.{begins_id};
-ghost use Rattle.wat_tokens.specs.Views.{option_view};
-ghost use Rattle.wat_types.specs.Label.{label_view};
-ghost use Rattle.wat_print.specs.Form.{option_form};
-ghost use Rattle.wat_print.specs.Label.{id_form, name_form, label_form};
-ghost use Rattle.wat_print.specs.Printed.{printing_by};
-ghost use Rattle.wat_print.specs.Prints.{Printed};
+ghost use Rattle.wat_types.specs.Prelude.{name_annotation, begins_name, label_view};
+ghost use Rattle.wat_print.specs.Prelude.{name_of, identifier, begins_id, option_view, option_form, id_form, label_form, printing_by, Printed};
+ghost use Rattle.wat_print.specs.Label.{name_form};
 ghost use Rattle.wat_print.specs.Laws.Label.{id_prints, name_prints};
 
 use crate::fault::Refused;

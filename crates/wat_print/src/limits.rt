@@ -1,13 +1,9 @@
 //! How limits, memory types and table types are printed.
 
 ghost use Rattle.std.specs.Prelude.{refl};
-ghost use Rattle.wat_types.specs.Limits.{limits_type, memory_type, table_type, TableTy};
-ghost use Rattle.wat_types.specs.Limits.{table_type_view};
-ghost use Rattle.wat_print.specs.Form.{flag_form};
-ghost use Rattle.wat_print.specs.Limits.{limits_form, page_form, memory_form, table_form};
-ghost use Rattle.wat_print.specs.Printed.{printing_by};
-ghost use Rattle.wat_print.specs.Prints.{Printed};
-ghost use Rattle.wat_print.specs.Laws.Limits.{limits_prints, memory_prints, table_prints};
+ghost use Rattle.wat_print.specs.Laws.Prelude.{table_type, TableTypeModel, flag_form, limits_form, page_form, memory_form, table_form, printing_by, Printed, memory_prints, table_prints};
+ghost use Rattle.wat_types.specs.Limits.{limits_type, memory_type, table_type_view};
+ghost use Rattle.wat_print.specs.Laws.Limits.{limits_prints};
 
 use crate::fault::Refused;
 use crate::output::Output;
@@ -111,7 +107,7 @@ impl Print for MemoryType {
 }
 
 impl Print for TableType<'_> {
-    ghost View = { TableTy };
+    ghost View = { TableTypeModel };
 
     ghost view = { table_type_view };
 

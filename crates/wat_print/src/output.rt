@@ -1,19 +1,14 @@
 //! The output: a text that is written token by token.
 
-ghost use Rattle.std.specs.Prelude.{◌≡◌, ◌≢◌, ◌∷◌, ◌++◌, ◌*◌, [], ◌<◌, ℕ, true, false};
-ghost use Rattle.std.specs.Prelude.{if◌then◌else◌, OnOk, IfErr, decimal, string_bytes, encode_utf8};
-ghost use Rattle.std.specs.Prelude.{flat_map};
-ghost use Rattle.std.specs.Fmt.{signed_decimal};
+ghost use Rattle.std.specs.Prelude.{string_bytes, ◌≡◌, ◌≢◌, ◌∷◌, ◌++◌, ◌*◌, [], ◌<◌, ℕ, true, false, if◌then◌else◌, OnOk, IfErr, decimal, encode_utf8, flat_map};
 ghost use Rattle.std.specs.Str.{is_utf8};
-ghost use Rattle.wat_lexer.specs.Bytes.{is_idchar};
-ghost use Rattle.wat_lexer.specs.Token.{LParen, RParen, Keyword, Id, Annotation, Integer};
-ghost use Rattle.wat_lexer.specs.Token.{String as Text};
+ghost use Rattle.wat_types.specs.Prelude.{signed_decimal, is_idchar, LParen, RParen, Keyword, Id, Annotation, Integer};
 ghost use Rattle.wat_print.specs.Layout.{broken, blanks};
 ghost use Rattle.wat_print.specs.WellFormed.{is_name};
-ghost use Rattle.wat_print.specs.Text.{put, blank_page, escape, quoted, quoted_as, name_text};
-ghost use Rattle.wat_print.specs.Text.{all_are};
+ghost use Rattle.wat_print.specs.Text.{put, blank_page, escape, quoted, quoted_as, name_text, all_are};
 ghost use Rattle.wat_print.specs.declared.fault.Refused.TheVariants.{Memory};
 ghost use Rattle.wat_print.specs.Printed.{may_break};
+ghost use Rattle.wat_lexer.specs.Token.{String as Text};
 
 use crate::fault::Refused;
 use std::alloc::{AllocError, Global};
@@ -217,7 +212,7 @@ impl Output {
     }
 
     /// Adds the content of a string, and the closing quote. UTF-8 content is added by characters.
-    #[tactic(auto, using(crate::specs::Laws::Characters::no_text))]
+    #[tactic(auto, using(wat_lexer::specs::Laws::Bytes::not_utf8))]
     fn push_quoted(&mut self, bytes: &[u8]) -> Result<(), AllocError>
         ensures { OnOk result (self.new ≡ record self.old {
           bytes = self.old.bytes ++ quoted bytes.now;

@@ -1,9 +1,7 @@
 //! How values are printed as texts.
 
-ghost use Rattle.std.specs.Prelude.{◌≡◌, ◌≢◌, true, IfOk, IfErr, string_bytes};
-ghost use Rattle.wat_tokens.specs.Whole.{TextSpells};
-ghost use Rattle.wat_print.specs.Printed.{NoneSpells};
-ghost use Rattle.wat_print.specs.Text.{printed_text};
+ghost use Rattle.std.specs.Prelude.{string_bytes, ◌≡◌, ◌≢◌, true, IfOk, IfErr};
+ghost use Rattle.wat_print.specs.Prelude.{TextSpells, NoneSpells, printed_text};
 ghost use Rattle.wat_print.specs.declared.fault.Refused.TheVariants.{Memory};
 ghost use Rattle.wat_print.specs.declared.output.Layout.TheVariants.{Line};
 

@@ -1,22 +1,17 @@
 //! How indices, heap types, reference types and value types are printed.
 
-ghost use Rattle.std.specs.Prelude.{◌≡◌, refl};
-ghost use Rattle.wat_tokens.specs.Index.{Idx, index_view, index};
-ghost use Rattle.wat_types.specs.Heap.{HeapTy, heap_view, abstract_, heap_type, abstract_heap_type};
-ghost use Rattle.wat_types.specs.Reference.{RefTy, ref_view, ref_type};
-ghost use Rattle.wat_types.specs.Value.{ValTy, val_view, val_type};
-ghost use Rattle.wat_print.specs.Index.{index_form};
-ghost use Rattle.wat_print.specs.Printed.{printing_by};
-ghost use Rattle.wat_print.specs.Prints.{Printed};
-ghost use Rattle.wat_print.specs.Reference.{short_word, heap_form, long_form, ref_form, val_form};
-ghost use Rattle.wat_print.specs.Reference.{abstract_form};
-ghost use Rattle.wat_print.specs.Laws.Reference.{abstract_prints, heap_prints, index_prints};
-ghost use Rattle.wat_print.specs.Laws.Reference.{ref_prints, val_prints};
+ghost use Rattle.std.specs.Prelude.{refl};
+ghost use Rattle.wat_types.specs.Prelude.{heap_view, heap_type, abstract_heap_type, ref_view, val_view, val_type};
+ghost use Rattle.wat_print.specs.Laws.Prelude.{IndexModel, index_view, index, HeapTypeModel, abstract_, RefTypeModel, ref_type, ValTypeModel, index_form, printing_by, Printed, heap_form, ref_form, val_form, index_prints, ref_prints, val_prints};
+ghost use Rattle.wat_print.specs.Reference.{long_form, abstract_form};
+ghost use Rattle.wat_print.specs.Laws.Reference.{abstract_prints, heap_prints};
 
 use crate::fault::Refused;
 use crate::output::Output;
 use crate::traits::Print;
 use wat_tokens::Index;
+use wat_tokens::words::NamedByKeyword;
+use wat_types::reference::Shorthand;
 use wat_types::{AbstractHeapType, HeapType, RefType, ValType};
 
 /// Writes an index.
@@ -59,28 +54,6 @@ pub fn write_heap(out: &mut Output, heap: &HeapType) -> Result<(), Refused>
     }
 }
 
-/// Returns the shorthand for a nullable reference to the heap type.
-fn shorthand_of(ty: AbstractHeapType) -> &'static str
-    ensures { result.now ≡ short_word ty }
-{
-    match ty {
-        AbstractHeapType::Func => "funcref",
-        AbstractHeapType::Extern => "externref",
-        AbstractHeapType::Exn => "exnref",
-        AbstractHeapType::Cont => "contref",
-        AbstractHeapType::Any => "anyref",
-        AbstractHeapType::Eq => "eqref",
-        AbstractHeapType::Struct => "structref",
-        AbstractHeapType::Array => "arrayref",
-        AbstractHeapType::I31 => "i31ref",
-        AbstractHeapType::NoFunc => "nullfuncref",
-        AbstractHeapType::NoExtern => "nullexternref",
-        AbstractHeapType::NoExn => "nullexnref",
-        AbstractHeapType::NoCont => "nullcontref",
-        AbstractHeapType::None => "nullref",
-    }
-}
-
 /// Writes `( ref null? HeapType )`.
 #[tactic(auto, using(crate::specs::Laws::Written::put_both))]
 fn write_long(out: &mut Output, reference: &RefType) -> Result<(), Refused>
@@ -102,7 +75,7 @@ pub fn write_ref(out: &mut Output, reference: &RefType) -> Result<(), Refused>
     ensures { Printed ref_form (ref_view reference.now) result out.old out.new }
 {
     match (reference.nullable, reference.heap) {
-        (true, HeapType::Abstract { shared: false, ty }) => out.word(shorthand_of(ty)),
+        (true, HeapType::Abstract { shared: false, ty }) => out.word(Shorthand(ty).word()),
         _ => write_long(out, reference),
     }
 }
@@ -123,7 +96,7 @@ pub fn write_val(out: &mut Output, ty: &ValType) -> Result<(), Refused>
 }
 
 impl Print for Index<'_> {
-    ghost View = { Idx };
+    ghost View = { IndexModel };
 
     ghost view = { index_view };
 
@@ -155,7 +128,7 @@ impl Print for AbstractHeapType {
 }
 
 impl Print for HeapType<'_> {
-    ghost View = { HeapTy };
+    ghost View = { HeapTypeModel };
 
     ghost view = { heap_view };
 
@@ -170,7 +143,7 @@ impl Print for HeapType<'_> {
 }
 
 impl Print for RefType<'_> {
-    ghost View = { RefTy };
+    ghost View = { RefTypeModel };
 
     ghost view = { ref_view };
 
@@ -185,7 +158,7 @@ impl Print for RefType<'_> {
 }
 
 impl Print for ValType<'_> {
-    ghost View = { ValTy };
+    ghost View = { ValTypeModel };
 
     ghost view = { val_view };
 

@@ -1,12 +1,8 @@
 //! How strings are printed.
 
 ghost use Rattle.std.specs.Prelude.{◌≡◌, List, ℕ, OnOk, true, IfErr, refl};
-ghost use Rattle.wat_tokens.specs.Strings.{string, text};
-ghost use Rattle.wat_print.specs.Printed.{printing_by};
-ghost use Rattle.wat_print.specs.Strings.{printable_string, string_form, text_form};
-ghost use Rattle.wat_print.specs.Text.{put};
+ghost use Rattle.wat_print.specs.Laws.Prelude.{string, text, printing_by, printable_string, string_form, text_form, put, string_prints, text_prints};
 ghost use Rattle.wat_print.specs.declared.fault.Refused.TheVariants.{Memory};
-ghost use Rattle.wat_print.specs.Laws.Strings.{string_prints, text_prints};
 
 use crate::fault::Refused;
 use crate::output::Output;

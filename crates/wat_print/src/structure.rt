@@ -1,14 +1,10 @@
 //! How structure types are printed.
 
 ghost use Rattle.std.specs.Prelude.{◌≡◌, List, refl};
-ghost use Rattle.wat_tokens.specs.Tests.{more};
-ghost use Rattle.wat_types.specs.Struct.{MemberTy, member_view, members_view, struct_view};
+ghost use Rattle.wat_print.specs.Prelude.{more, member_view, many_form, none_labelled, printing_by, Printed, member_label, member_form};
+ghost use Rattle.wat_types.specs.Struct.{StructFieldModel, members_view, struct_view};
+ghost use Rattle.wat_print.specs.Struct.{member_alone_form, struct_form};
 ghost use Rattle.wat_types.specs.StructType.{struct_type};
-ghost use Rattle.wat_print.specs.Form.{many_form};
-ghost use Rattle.wat_print.specs.Label.{none_labelled};
-ghost use Rattle.wat_print.specs.Printed.{printing_by};
-ghost use Rattle.wat_print.specs.Prints.{Printed};
-ghost use Rattle.wat_print.specs.Struct.{member_label, member_form, member_alone_form, struct_form};
 ghost use Rattle.wat_print.specs.Laws.Struct.{struct_prints};
 
 use crate::fault::Refused;
@@ -100,7 +96,7 @@ pub(crate) fn write_struct(out: &mut Output, structure: &StructType) -> Result<(
 }
 
 impl Print for StructType<'_> {
-    ghost View = { List MemberTy };
+    ghost View = { List StructFieldModel };
 
     ghost view = { struct_view };
 

@@ -1,36 +1,19 @@
 -- Written groups of instructions.
-use Rattle.std.specs.Prelude.{◌≡◌, ◌==◌, ℕ, Bool, true, false, ◌&&◌, List, [], ◌∷◌, ◌++◌, flat_map}
-use Rattle.std.specs.Prelude.{map, length, Option, Some, None, option_map, is_some}
-use Rattle.std.proofs.Common.{refl, ap, subst, sym, ◌∙◌, append-nil, get_or, arith}
-use Rattle.std.proofs.lemmas.Bool.{and_parts, eqb-true, and_left, and_right}
-use Rattle.std.proofs.lemmas.List.{map-append}
-use Rattle.wat_tokens.specs.Laws.Production.{by_test}
-use Rattle.wat_lexer.specs.Token.{Tok, LParen, RParen}
-use Rattle.wat_tokens.specs.Spelled.{in_parens}
-use Rattle.wat_instr.specs.Instruction.{Instr}
-use Rattle.wat_expr.specs.Expression.{Expr}
-use Rattle.wat_expr.specs.Folded.{Groups, NoGroup, Group}
-use Rattle.wat_print.specs.Parts.{each, spell_option}
-use Rattle.wat_print.specs.Text.{Page, put}
-use Rattle.wat_print.specs.Laws.Written.{put_then, put_parens, put_both}
-use Rattle.wat_print.specs.Laws.Parts.{each_append}
-use Rattle.wat_print_instr.specs.FoldedForm.{takes_catches, is_catch, op_of, own_groups}
-use Rattle.wat_print_instr.specs.FoldedForm.{catch_first, groups_behind, group_from, own_form}
-use Rattle.wat_print_instr.specs.FoldedForm.{spell_groups, spell_folded, no_hints, printable_folded}
-use Rattle.wat_print_instr.specs.Laws.Folded.{group_last}
-use Rattle.wat_print_instr.specs.InstructionForm.{spell_instruction, printable_instruction}
+use Rattle.std.proofs.Common.{◌≡◌, ◌==◌, ℕ, Bool, true, false, ◌&&◌, List, [], ◌∷◌, ◌++◌, flat_map, map, length, Option, Some, None, option_map, is_some, refl, ap, subst, sym, ◌∙◌, append-nil, get_or, arith}
+use Rattle.wat_print_instr.specs.Laws.Prelude.{and_parts, eqb-true, and_left, and_right, map-append, by_test, Token, LParen, RParen, in_parens, InstructionModel, ExpressionModel, Groups, NoGroup, Group, each, spell_option, Page, put, put_then, put_both, each_append, takes_catches, is_catch, op_of, own_groups, catch_first, groups_behind, group_from, own_form, spell_groups, spell_folded, no_hints, printable_folded, group_last, spell_instruction, printable_instruction}
+use Rattle.wat_print.specs.Laws.Written.{put_parens}
 
 -- ---- texts
 
-pub own_spelled : (is : List Instr) → flat_map own_form.spell is ≡ spell_groups (own_groups is)
+pub own_spelled : (is : List InstructionModel) → flat_map own_form.spell is ≡ spell_groups (own_groups is)
 own_spelled [] = refl
 own_spelled (i ∷ is) =
-    ap (λ (l : List Tok). in_parens l ++ flat_map own_form.spell is)
+    ap (λ (l : List Token). in_parens l ++ flat_map own_form.spell is)
     (sym (append-nil (spell_instruction i)))
-    ∙ ap (λ (l : List Tok). in_parens (spell_instruction i ++ []) ++ l) (own_spelled is)
+    ∙ ap (λ (l : List Token). in_parens (spell_instruction i ++ []) ++ l) (own_spelled is)
 
 -- `(`, the instruction, groups, `)`
-pub group_written : (i : Instr) (gs : Groups) (a b c d e : Page) → b ≡ put a (LParen ∷ [])
+pub group_written : (i : InstructionModel) (gs : Groups) (a b c d e : Page) → b ≡ put a (LParen ∷ [])
     → c ≡ put b (spell_instruction i) → d ≡ put c (spell_groups gs) → e ≡ put d (RParen ∷ [])
     → e ≡ put a (in_parens (spell_instruction i ++ spell_groups gs))
 group_written i gs a b c d e f g h k =
@@ -39,7 +22,7 @@ group_written i gs a b c d e f g h k =
 
 -- ---- instructions that can be written
 
-pub unprintable_here : (xs : List Instr) (i : Instr) (ys : List Instr)
+pub unprintable_here : (xs : List InstructionModel) (i : InstructionModel) (ys : List InstructionModel)
     → printable_instruction i ≡ false
     → each printable_instruction (xs ++ i ∷ ys) ≡ false
 unprintable_here xs i ys e =
@@ -50,8 +33,8 @@ pub ruleset groups_put = (own_spelled, put_both, each_append, unprintable_here, 
 
 -- ---- values that are viewed as instructions
 
-module _ {X : Type 0} (v : X → Instr) where
-  pub catch_seen : (h : Instr) (xs : List X) (x : X) → (length xs == 0) ≡ false
+module _ {X : Type 0} (v : X → InstructionModel) where
+  pub catch_seen : (h : InstructionModel) (xs : List X) (x : X) → (length xs == 0) ≡ false
       → x ≡ get_or xs 0 x
       → takes_catches (op_of h) && is_catch (op_of (v x)) ≡ catch_first h (map v xs)
   catch_seen h [] x e s = absurd cc
@@ -65,22 +48,22 @@ module _ {X : Type 0} (v : X → Instr) where
 
 -- ---- a folded instruction
 
-pub whole_written : (i : Instr) (o : Option Groups) (a b c d e : Page) → b ≡ put a (LParen ∷ [])
+pub whole_written : (i : InstructionModel) (o : Option Groups) (a b c d e : Page) → b ≡ put a (LParen ∷ [])
     → c ≡ put b (spell_instruction i) → d ≡ put c (spell_option spell_groups o)
     → e ≡ put d (RParen ∷ []) → is_some o ≡ true
     → e ≡ put a (spell_option spell_groups (option_map (λ gs. Group i gs NoGroup) o))
 whole_written i (Some gs) a b c d e f g h k s =
     group_written i gs a b c d e f g h k
-    ∙ ap (λ (l : List Tok). put a l)
+    ∙ ap (λ (l : List Token). put a l)
     (sym (append-nil (in_parens (spell_instruction i ++ spell_groups gs))))
 whole_written i None a b c d e f g h k s = absurd cc
 
-some_whole : (i : Instr) (o : Option Groups)
+some_whole : (i : InstructionModel) (o : Option Groups)
     → is_some (option_map (λ gs. Group i gs NoGroup) o) ≡ is_some o
 some_whole i (Some gs) = refl
 some_whole i None = refl
 
-module _ (e : Expr) (is : List Instr) (i : Instr) (s : e.instrs ≡ is ++ i ∷ []) where
+module _ (e : ExpressionModel) (is : List InstructionModel) (i : InstructionModel) (s : e.instrs ≡ is ++ i ∷ []) where
   whole_is : group_from [] e.instrs ≡ option_map (λ gs. Group i gs NoGroup) (groups_behind i is)
   whole_is = ap (group_from []) s ∙ group_last [] is i
 

@@ -1,25 +1,12 @@
 -- How memory accesses and orderings are written.
-use Rattle.std.specs.Prelude.{ℕ, Bool, true, not, ◌&&◌, ◌||◌, ◌==◌, codes, Option, Some, None}
-use Rattle.std.specs.Prelude.{is_none, option_map, ◌⊎◌}
-use Rattle.std.specs.Int.{is_power_of_two}
+use Rattle.std.specs.Prelude.{ℕ, Bool, true, not, ◌&&◌, ◌||◌, ◌==◌, codes, Option, Some, None, is_none, option_map, ◌⊎◌}
 use Rattle.std.proofs.Common.{inl, inr}
-use Rattle.wat_tokens.specs.Index.{Idx}
-use Rattle.wat_tokens.specs.Tests.{begins_word}
-use Rattle.wat_operands.specs.Lanes.{LaneAccessTy, goes_on}
-use Rattle.wat_operands.specs.Memory.{TargetTy, memory, array, array_follows, begins_with, MemArgTy}
-use Rattle.wat_operands.specs.Ordering.{begins_ordering}
-use Rattle.wat_operands.specs.declared.lanes.LaneArg.{LaneArg}
-use Rattle.wat_operands.specs.declared.memory.MemArgOrdering.{MemArgOrdering}
+use Rattle.wat_expr.specs.Prelude.{is_power_of_two, IndexModel, begins_word, LaneAccessModel, goes_on, MemArgTargetModel, memory, array, array_follows, begins_with, MemArgModel, begins_ordering, LaneArg, MemArgOrdering, Ordering, AcqRel, SeqCst}
+use Rattle.wat_print.specs.Prelude.{Test, any, Form, word_form, seq_form, by, by_where, told_form, else_form, option_form, group_form, index_form, is_u64}
 use Rattle.wat_operands.specs.declared.memory.MemArgOrdering.TheVariants.{Op, Rmw}
-use Rattle.wat_operands.specs.declared.ordering.Ordering.{Ordering}
-use Rattle.wat_operands.specs.declared.ordering.Ordering.TheVariants.{AcqRel, SeqCst}
-use Rattle.wat_print.specs.Form.{Test, any, Form, word_form, seq_form, by, by_where, told_form}
-use Rattle.wat_print.specs.Form.{else_form, option_form, group_form}
-use Rattle.wat_print.specs.Index.{index_form}
-use Rattle.wat_print.specs.Limits.{is_u64}
 use Rattle.wat_print_instr.specs.Form.{default_form, next_form}
 use Rattle.wat_print_instr.specs.Numbers.{numbered_form, unsigned_form}
-use Rattle.wat_print_instr.specs.Places.{index_or_0_form}
+use Rattle.wat_print_instr.specs.Indices.{index_or_0_form}
 
 -- ---- targets, offsets and alignments
 
@@ -27,12 +14,12 @@ use Rattle.wat_print_instr.specs.Places.{index_or_0_form}
 abbrev pub no_type : Test
 no_type r = not (begins_word (codes "type") r)
 
-abbrev pub target_parts : TargetTy → Idx ⊎ Idx
+abbrev pub target_parts : MemArgTargetModel → IndexModel ⊎ IndexModel
 target_parts (array i) = inl i
 target_parts (memory i) = inr i
 
 -- ( type idx ), or a memory, which is omitted if it is 0
-abbrev pub target_form : Form TargetTy
+abbrev pub target_form : Form MemArgTargetModel
 target_form =
     by target_parts (told_form no_type array_follows (group_form (codes "type") index_form)
     index_or_0_form)
@@ -57,21 +44,21 @@ abbrev pub fields_form : ℕ → Form (ℕ × ℕ)
 fields_form a = next_form any offset_form (align_form a)
 
 -- a target, an offset and an alignment, with the default alignment a
-abbrev pub Place : Type 0
-Place = TargetTy × (ℕ × ℕ)
+abbrev pub Address : Type 0
+Address = MemArgTargetModel × (ℕ × ℕ)
 
-abbrev pub place_form : ℕ → Form Place
-place_form a = next_form no_type target_form (fields_form a)
+abbrev pub address_form : ℕ → Form Address
+address_form a = next_form no_type target_form (fields_form a)
 
-abbrev pub place_of : MemArgTy → Place
-place_of m = (m.target, (m.offset, m.align))
+abbrev pub address_of : MemArgModel → Address
+address_of m = (m.target, (m.offset, m.align))
 
 -- an access without an ordering
-abbrev pub printable_access : ℕ → MemArgTy → Bool
-printable_access a m = (place_form a).printable (place_of m) && is_none m.ordering
+abbrev pub printable_access : ℕ → MemArgModel → Bool
+printable_access a m = (address_form a).printable (address_of m) && is_none m.ordering
 
-abbrev pub access_form : ℕ → Form MemArgTy
-access_form a = by_where (printable_access a) place_of (place_form a)
+abbrev pub access_form : ℕ → Form MemArgModel
+access_form a = by_where (printable_access a) address_of (address_form a)
 
 -- ---- orderings
 
@@ -96,8 +83,8 @@ abbrev pub ordering_in : MemArgOrdering → Ordering
 ordering_in (Op o) = o
 ordering_in (Rmw o) = o
 
-abbrev pub atomic_parts : MemArgTy → Place × Option Ordering
-atomic_parts m = (place_of m, option_map ordering_in m.ordering)
+abbrev pub atomic_parts : MemArgModel → Address × Option Ordering
+atomic_parts m = (address_of m, option_map ordering_in m.ordering)
 
 -- no ordering; or `Rmw` for a read-modify-write instruction, and `Op` for any other instruction
 abbrev pub printable_ordering : Bool → Option MemArgOrdering → Bool
@@ -105,28 +92,28 @@ printable_ordering rmw None = true
 printable_ordering rmw (Some (Op o)) = not rmw
 printable_ordering rmw (Some (Rmw o)) = rmw
 
-abbrev pub printable_atomic : ℕ → Bool → MemArgTy → Bool
+abbrev pub printable_atomic : ℕ → Bool → MemArgModel → Bool
 printable_atomic a rmw m =
-    (place_form a).printable (place_of m) && printable_ordering rmw m.ordering
+    (address_form a).printable (address_of m) && printable_ordering rmw m.ordering
 
 -- an atomic access, with the default alignment a
-abbrev pub atomic_form : ℕ → Bool → Form MemArgTy
+abbrev pub atomic_form : ℕ → Bool → Form MemArgModel
 atomic_form a rmw =
-    by_where (printable_atomic a rmw) atomic_parts (next_form no_type (place_form a) fence_form)
+    by_where (printable_atomic a rmw) atomic_parts (next_form no_type (address_form a) fence_form)
 
 -- ---- lanes
 
 abbrev pub lane_form : Form LaneArg
 lane_form = by (λ l. l.lane) (unsigned_form 8)
 
-abbrev pub lane_access_parts : LaneAccessTy → Place × LaneArg
-lane_access_parts l = (place_of l.memarg, l.lane)
+abbrev pub lane_access_parts : LaneAccessModel → Address × LaneArg
+lane_access_parts l = (address_of l.memarg, l.lane)
 
-abbrev pub printable_lane_access : ℕ → LaneAccessTy → Bool
+abbrev pub printable_lane_access : ℕ → LaneAccessModel → Bool
 printable_lane_access a l = printable_access a l.memarg && lane_form.printable l.lane
 
 -- an access and its lane, with the default alignment a
-abbrev pub lane_access_form : ℕ → Form LaneAccessTy
+abbrev pub lane_access_form : ℕ → Form LaneAccessModel
 lane_access_form a =
     record (by_where (printable_lane_access a) lane_access_parts
-    (seq_form (place_form a) lane_form)) { follows = λ r. not (goes_on r) }
+    (seq_form (address_form a) lane_form)) { follows = λ r. not (goes_on r) }

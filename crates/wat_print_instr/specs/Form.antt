@@ -1,10 +1,6 @@
 -- Forms of parts that are omitted if they have their default, and forms by their tokens.
 use Rattle.std.specs.Prelude.{◌≡◌, Bool, true, ◌&&◌, if◌then◌else◌, List, ◌++◌, Option, Some, None}
-use Rattle.wat_lexer.specs.Token.{Tok}
-use Rattle.wat_tokens.specs.Production.{Production}
-use Rattle.wat_tokens.specs.Tests.{none_left}
-use Rattle.wat_print.specs.Form.{Test, Form, seq_form, by_where, option_form}
-use Rattle.wat_print.specs.Printed.{Printing}
+use Rattle.wat_print.specs.Prelude.{Token, Production, none_left, Test, Form, seq_form, by_where, option_form, Printing}
 
 -- None for a default
 abbrev pub unless : {A : Type 0} → (A → Bool) → A → Option A
@@ -26,7 +22,7 @@ next_form ends p q = record (seq_form p q) {
 }
 
 -- A form by its tokens and its two tests. `Fronts` is the whole fact about the first tokens.
-abbrev pub plain_form : {A : Type 0} → (A → List Tok) → (A → Bool) → Test → Form A
+abbrev pub plain_form : {A : Type 0} → (A → List Token) → (A → Bool) → Test → Form A
 plain_form {A} spell printable follows = record {
   spell = spell;
   printable = printable;
@@ -34,7 +30,7 @@ plain_form {A} spell printable follows = record {
   follows = follows;
   empty = true;
   balanced = true;
-  Fronts = λ rest test. ((v : A) (r : List Tok) → printable v ≡ true → rest r ≡ true
+  Fronts = λ rest test. ((v : A) (r : List Token) → printable v ≡ true → rest r ≡ true
       → test r ≡ true → test (spell v ++ r) ≡ true);
 }
 

@@ -1,45 +1,14 @@
 -- How instructions are written: a word, and an operand.
 use Rattle.std.specs.Prelude.{ℕ, ℤ, Bool, true, false, ◌&&◌, ◌==◌, List, ◌∷◌, Option, Some, None}
-use Rattle.wat_lexer.specs.Token.{Tok, Keyword}
-use Rattle.wat_tokens.specs.Index.{Idx}
-use Rattle.wat_types.specs.Heap.{HeapTy}
-use Rattle.wat_types.specs.Reference.{RefTy}
-use Rattle.wat_types.specs.Value.{ValTy}
-use Rattle.wat_operands.specs.Block.{BlockTy}
-use Rattle.wat_operands.specs.Branch.{BrTableTy}
-use Rattle.wat_operands.specs.Call.{CallTy}
-use Rattle.wat_operands.specs.Casts.{BranchTy}
-use Rattle.wat_operands.specs.Catches.{TryTy}
-use Rattle.wat_operands.specs.Handlers.{ResumeTy, ThrowTy}
-use Rattle.wat_operands.specs.Lanes.{LaneAccessTy}
-use Rattle.wat_operands.specs.Memory.{MemArgTy}
-use Rattle.wat_operands.specs.declared.lanes.LaneArg.{LaneArg}
-use Rattle.wat_operands.specs.declared.ordering.Ordering.{Ordering}
-use Rattle.wat_operands.specs.declared.vector.I8x16Shuffle.{I8x16Shuffle}
-use Rattle.wat_operands.specs.declared.vector.V128Const.{V128Const}
-use Rattle.wat_mnemonics.specs.Access.{access_align, atomic_access_align, rmw_access_align}
-use Rattle.wat_mnemonics.specs.Access.{lane_access_align}
-use Rattle.wat_mnemonics.specs.Ops.{op_word, op_row}
-use Rattle.wat_mnemonics.specs.Places.{op_of_row}
-use Rattle.wat_mnemonics.specs.declared.op.Op.{Op}
-use Rattle.wat_mnemonics.specs.declared.op.Op.TheVariants as ops
-use Rattle.wat_instr.specs.Instruction.{Instr}
-use Rattle.wat_instr.specs.Operand.{Operand, nothing, block, label, one_index, two_indices}
-use Rattle.wat_instr.specs.Operand.{branches, call, chosen, access, ordered_index, ordered_indices}
-use Rattle.wat_instr.specs.Operand.{lane_access, lane, heap, sized, reference, cast, integer, float}
-use Rattle.wat_instr.specs.Operand.{fence, vector, shuffled, caught, resumed, thrown}
-use Rattle.wat_print.specs.Form.{Form, blank_form}
-use Rattle.wat_print.specs.Index.{index_form}
-use Rattle.wat_print.specs.Parts.{spell_option}
-use Rattle.wat_print.specs.Reference.{heap_form, ref_form}
-use Rattle.wat_print_instr.specs.Access.{access_form, fence_form, ordered_form, atomic_form}
-use Rattle.wat_print_instr.specs.Access.{lane_form, lane_access_form}
-use Rattle.wat_print_instr.specs.Control.{block_form, call_form, end_label_form, select_form}
-use Rattle.wat_print_instr.specs.Control.{branch_form, try_form, resume_form, throw_form}
+use Rattle.wat_expr.specs.Prelude.{Token, Keyword, IndexModel, HeapTypeModel, RefTypeModel, ValTypeModel, BlockTypeModel, BrTableModel, CallIndirectModel, CastBranchModel, TryTableModel, ResumeModel, ResumeThrowModel, LaneAccessModel, MemArgModel, LaneArg, Ordering, I8x16Shuffle, V128Const, access_align, atomic_access_align, rmw_access_align, lane_access_align, op_word, op_row, op_of_row, Op, InstructionModel, Operand, nothing, block, one_index, two_indices, branches, call, chosen, access, ordered_index, ordered_indices, lane, heap, sized, reference, cast, integer, float, fence, vector, shuffled, caught, resumed, thrown}
+use Rattle.wat_print.specs.Prelude.{Form, blank_form, index_form, spell_option, heap_form, ref_form}
+use Rattle.wat_instr.specs.Operand.{label, lane_access}
+use Rattle.wat_print_instr.specs.Access.{access_form, fence_form, ordered_form, atomic_form, lane_form, lane_access_form}
+use Rattle.wat_print_instr.specs.Control.{block_form, call_form, end_label_form, select_form, branch_form, try_form, resume_form, throw_form}
 use Rattle.wat_print_instr.specs.Numbers.{signed_form}
-use Rattle.wat_print_instr.specs.Places.{index_or_0_form, pair_form, init_form, copy_form}
-use Rattle.wat_print_instr.specs.Places.{sized_form, br_table_form}
+use Rattle.wat_print_instr.specs.Indices.{index_or_0_form, pair_form, init_form, copy_form, sized_form, br_table_form}
 use Rattle.wat_print_instr.specs.Vectors.{never_form, vector_form, shuffle_form}
+use Rattle.wat_mnemonics.specs.declared.op.Op.TheVariants as ops
 
 -- ---- the value in an operand
 
@@ -47,7 +16,7 @@ abbrev pub found_nothing : Operand → Option (Unit {0})
 found_nothing nothing = Some tt
 found_nothing _ = None
 
-abbrev pub found_block : Operand → Option BlockTy
+abbrev pub found_block : Operand → Option BlockTypeModel
 found_block (block x) = Some x
 found_block _ = None
 
@@ -55,39 +24,39 @@ abbrev pub found_label : Operand → Option (Option (List ℕ))
 found_label (label x) = Some x
 found_label _ = None
 
-abbrev pub found_one_index : Operand → Option Idx
+abbrev pub found_one_index : Operand → Option IndexModel
 found_one_index (one_index x) = Some x
 found_one_index _ = None
 
-abbrev pub found_two_indices : Operand → Option (Idx × Idx)
+abbrev pub found_two_indices : Operand → Option (IndexModel × IndexModel)
 found_two_indices (two_indices x) = Some x
 found_two_indices _ = None
 
-abbrev pub found_branches : Operand → Option BrTableTy
+abbrev pub found_branches : Operand → Option BrTableModel
 found_branches (branches x) = Some x
 found_branches _ = None
 
-abbrev pub found_call : Operand → Option CallTy
+abbrev pub found_call : Operand → Option CallIndirectModel
 found_call (call x) = Some x
 found_call _ = None
 
-abbrev pub found_chosen : Operand → Option (Option (List ValTy))
+abbrev pub found_chosen : Operand → Option (Option (List ValTypeModel))
 found_chosen (chosen x) = Some x
 found_chosen _ = None
 
-abbrev pub found_access : Operand → Option MemArgTy
+abbrev pub found_access : Operand → Option MemArgModel
 found_access (access x) = Some x
 found_access _ = None
 
-abbrev pub found_ordered_index : Operand → Option (Ordering × Idx)
+abbrev pub found_ordered_index : Operand → Option (Ordering × IndexModel)
 found_ordered_index (ordered_index x) = Some x
 found_ordered_index _ = None
 
-abbrev pub found_ordered_indices : Operand → Option (Ordering × (Idx × Idx))
+abbrev pub found_ordered_indices : Operand → Option (Ordering × (IndexModel × IndexModel))
 found_ordered_indices (ordered_indices x) = Some x
 found_ordered_indices _ = None
 
-abbrev pub found_lane_access : Operand → Option LaneAccessTy
+abbrev pub found_lane_access : Operand → Option LaneAccessModel
 found_lane_access (lane_access x) = Some x
 found_lane_access _ = None
 
@@ -95,19 +64,19 @@ abbrev pub found_lane : Operand → Option LaneArg
 found_lane (lane x) = Some x
 found_lane _ = None
 
-abbrev pub found_heap : Operand → Option HeapTy
+abbrev pub found_heap : Operand → Option HeapTypeModel
 found_heap (heap x) = Some x
 found_heap _ = None
 
-abbrev pub found_sized : Operand → Option (Idx × ℕ)
+abbrev pub found_sized : Operand → Option (IndexModel × ℕ)
 found_sized (sized x) = Some x
 found_sized _ = None
 
-abbrev pub found_reference : Operand → Option RefTy
+abbrev pub found_reference : Operand → Option RefTypeModel
 found_reference (reference x) = Some x
 found_reference _ = None
 
-abbrev pub found_cast : Operand → Option BranchTy
+abbrev pub found_cast : Operand → Option CastBranchModel
 found_cast (cast x) = Some x
 found_cast _ = None
 
@@ -131,15 +100,15 @@ abbrev pub found_shuffled : Operand → Option I8x16Shuffle
 found_shuffled (shuffled x) = Some x
 found_shuffled _ = None
 
-abbrev pub found_caught : Operand → Option TryTy
+abbrev pub found_caught : Operand → Option TryTableModel
 found_caught (caught x) = Some x
 found_caught _ = None
 
-abbrev pub found_resumed : Operand → Option ResumeTy
+abbrev pub found_resumed : Operand → Option ResumeModel
 found_resumed (resumed x) = Some x
 found_resumed _ = None
 
-abbrev pub found_thrown : Operand → Option ThrowTy
+abbrev pub found_thrown : Operand → Option ResumeThrowModel
 found_thrown (thrown x) = Some x
 found_thrown _ = None
 
@@ -220,13 +189,13 @@ operand_form ops.br_on_cast_desc_eq_fail = found_form found_cast branch_form
 -- ---- instructions
 
 -- the word of the row, and the operand
-abbrev pub spell_instruction : Instr → List Tok
+abbrev pub spell_instruction : InstructionModel → List Token
 spell_instruction i =
     Keyword (op_word (op_of_row i.row))
     ∷ (operand_form (op_of_row i.row)).spell i.operand
 
 -- the row exists, and its instruction can have the operand
-abbrev pub printable_instruction : Instr → Bool
+abbrev pub printable_instruction : InstructionModel → Bool
 printable_instruction i =
     (op_row (op_of_row i.row) == i.row)
     && (operand_form (op_of_row i.row)).printable i.operand

@@ -7,7 +7,8 @@ pub mod Form
 pub mod Instruction
 pub mod Numbers
 pub mod OperandFront
-pub mod Places
+pub mod Indices
 pub mod Access
 pub mod Vectors
 pub mod Control
+pub mod Prelude

@@ -19,5 +19,6 @@ pub mod Form
 pub mod InstructionForm
 pub mod Laws
 pub mod Numbers
-pub mod Places
+pub mod Indices
 pub mod Vectors
+pub mod Prelude

@@ -1,11 +1,6 @@
 -- How signed and unsigned numbers, and words that end in a number, are written.
-use Rattle.std.specs.Prelude.{◌≡◌, ℕ, ℤ, pos, negsuc, ◌*◌, ◌^◌, ◌-◌, ◌≤◌, Bool, true, ◌&&◌, ◌==◌}
-use Rattle.std.specs.Prelude.{nat_lt, List, ◌∷◌, ◌++◌, length, decimal}
-use Rattle.std.specs.Fmt.{signed_decimal}
-use Rattle.wat_lexer.specs.Token.{Tok, Keyword, Integer}
-use Rattle.wat_print.specs.Form.{Test, Form, token_form}
-use Rattle.wat_print.specs.Limits.{OfIntegers}
-use Rattle.wat_print.specs.Parts.{each}
+use Rattle.std.specs.Prelude.{◌≡◌, ℕ, ℤ, pos, negsuc, ◌*◌, ◌^◌, ◌-◌, ◌≤◌, Bool, true, ◌&&◌, ◌==◌, nat_lt, List, ◌∷◌, ◌++◌, length, decimal}
+use Rattle.wat_print.specs.Prelude.{signed_decimal, Token, Keyword, Integer, Test, Form, token_form, OfIntegers, each}
 
 -- a width from 1 to 64 bits: twice 2^(bits - 1) is 2^bits
 pub record Halves (bits : ℕ) : Type 0 where
@@ -29,11 +24,11 @@ abbrev pub unsigned_form : ℕ → Form ℕ
 unsigned_form bits = token_form (λ n. Integer (decimal n)) (is_unsigned bits) OfIntegers
 
 -- a word that ends in a number
-abbrev pub numbered : List ℕ → ℕ → Tok
+abbrev pub numbered : List ℕ → ℕ → Token
 numbered front n = Keyword (front ++ decimal n)
 
 abbrev pub OfNumbered : List ℕ → Test → Test → Type 0
-OfNumbered front rest test = (n : ℕ) (y : List Tok) → rest y ≡ true
+OfNumbered front rest test = (n : ℕ) (y : List Token) → rest y ≡ true
     → test (numbered front n ∷ y) ≡ true
 
 abbrev pub numbered_form : List ℕ → (ℕ → Bool) → Form ℕ

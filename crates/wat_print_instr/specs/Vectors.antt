@@ -1,11 +1,8 @@
 -- How constants of 128 bits and shuffled lanes are written.
 use Rattle.std.specs.Prelude.{ℕ, ℤ, true, false, List, [], codes, flat_map, ◌⊎◌}
 use Rattle.std.proofs.Common.{inl, inr}
-use Rattle.wat_tokens.specs.Tests.{begins_word}
-use Rattle.wat_operands.specs.declared.vector.I8x16Shuffle.{I8x16Shuffle}
-use Rattle.wat_operands.specs.declared.vector.V128Const.{V128Const}
-use Rattle.wat_operands.specs.declared.vector.V128Const.TheVariants.{I8x16, I16x8, I32x4, I64x2}
-use Rattle.wat_operands.specs.declared.vector.V128Const.TheVariants.{F32x4, F64x2}
+use Rattle.wat_expr.specs.Prelude.{begins_word, I8x16Shuffle, V128Const, I8x16, I16x8, I32x4, I64x2, F32x4}
+use Rattle.wat_operands.specs.declared.vector.V128Const.TheVariants.{F64x2}
 use Rattle.wat_print.specs.Form.{any, Form, word_form, seq_form, by, else_form}
 use Rattle.wat_print_instr.specs.Numbers.{signed_form, unsigned_form, printable_number_of}
 

@@ -2,25 +2,17 @@
 #![tactic(auto, using(wat_print::specs::Laws::Written::put_both))]
 
 ghost use Rattle.std.specs.Prelude.{◌≡◌, OnOk, IfErr, if◌then◌else◌, option_map, Some, None, refl};
+ghost use Rattle.wat_print_instr.specs.Prelude.{spell_option, printing_by, Printed, put, Memory, exactly};
 ghost use Rattle.wat_operands.specs.Lanes.{lane_arg, lane_access_view};
 ghost use Rattle.wat_operands.specs.Memory.{target_view, mem_arg_view};
 ghost use Rattle.wat_operands.specs.Ordering.{ordering, ordered, ordered_view};
 ghost use Rattle.wat_print.specs.Limits.{is_u64};
-ghost use Rattle.wat_print.specs.Parts.{spell_option};
-ghost use Rattle.wat_print.specs.Printed.{printing_by};
-ghost use Rattle.wat_print.specs.Prints.{Printed};
-ghost use Rattle.wat_print.specs.Text.{put};
-ghost use Rattle.wat_print.specs.declared.fault.Refused.TheVariants.{Memory};
-ghost use Rattle.wat_print_instr.specs.Access.{target_form, align_form, place_form, place_of};
-ghost use Rattle.wat_print_instr.specs.Access.{access_form, ordering_form, fence_form, ordering_in};
-ghost use Rattle.wat_print_instr.specs.Access.{printable_ordering, atomic_form, lane_form};
-ghost use Rattle.wat_print_instr.specs.Access.{lane_access_form, ordered_form};
-ghost use Rattle.wat_print_instr.specs.Form.{exactly};
+ghost use Rattle.wat_print_instr.specs.Access.{target_form, align_form, address_form, address_of, access_form, ordering_form, fence_form, ordering_in, printable_ordering, atomic_form, lane_form, lane_access_form, ordered_form};
 ghost use Rattle.wat_print_instr.specs.Numbers.{numbered_form};
 ghost use Rattle.wat_print_instr.specs.Laws.Access.{lane_prints, ordered_prints, ordering_prints};
 ghost use Rattle.wat_print_instr.specs.Laws.Form.{exactly_prints};
 
-use crate::places::write_index_or_0;
+use crate::indices::write_index_or_0;
 use crate::traits::PrintCode;
 use wat_operands::{
     LaneArg, LoadOrStoreLane, MemArg, MemArgOrdering, MemArgTarget, Ordered, Ordering,
@@ -66,7 +58,7 @@ fn write_unless(out: &mut Output, is_meant: bool, front: &str, number: u64) -> R
 /// the default alignment are omitted. It fails with Alignment if the alignment is neither the
 /// default nor a power of two.
 fn write_place(out: &mut Output, access: &MemArg, default: u64) -> Result<(), Refused>
-    ensures { Printed (place_form default) (place_of (mem_arg_view access.now)) result out.old
+    ensures { Printed (address_form default) (address_of (mem_arg_view access.now)) result out.old
         out.new }
 {
     if !may_align(access.align, default) {

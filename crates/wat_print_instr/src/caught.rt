@@ -2,20 +2,12 @@
 #![tactic(auto, using(wat_print::specs::Laws::Written::put_both))]
 
 ghost use Rattle.std.specs.Prelude.{List, refl};
-ghost use Rattle.wat_tokens.specs.Index.{index_view};
-ghost use Rattle.wat_operands.specs.CatchClause.{CatchTy, catch_clause};
-ghost use Rattle.wat_operands.specs.Catches.{catch_kind_view, catch_view, TryTy, try_view};
-ghost use Rattle.wat_operands.specs.Catches.{try_table};
-ghost use Rattle.wat_operands.specs.Handler.{HandleTy, handler};
-ghost use Rattle.wat_operands.specs.Handlers.{handle_view, resume_table_view, resume_table};
-ghost use Rattle.wat_operands.specs.Handlers.{ResumeTy, resume_view, resume_throw_ref_view, resume};
-ghost use Rattle.wat_operands.specs.Handlers.{ThrowTy, resume_throw_view, resume_throw};
-ghost use Rattle.wat_print.specs.Printed.{printing_by};
-ghost use Rattle.wat_print.specs.Prints.{Printed};
-ghost use Rattle.wat_print_instr.specs.Control.{catch_kind_form, resume_table_form, catch_form};
-ghost use Rattle.wat_print_instr.specs.Control.{handler_form, resume_form, throw_form, try_form};
-ghost use Rattle.wat_print_instr.specs.Laws.Control.{catch_prints, handler_prints, resume_prints};
-ghost use Rattle.wat_print_instr.specs.Laws.Control.{resume_table_prints, throw_prints, try_prints};
+ghost use Rattle.wat_expr.specs.Prelude.{index_view, CatchModel, catch_clause, TryTableModel, try_table, HandleModel, handler, resume_table, ResumeModel, resume, ResumeThrowModel, resume_throw};
+ghost use Rattle.wat_print_instr.specs.Prelude.{printing_by, Printed};
+ghost use Rattle.wat_operands.specs.Catches.{catch_kind_view, catch_view, try_view};
+ghost use Rattle.wat_operands.specs.Handlers.{handle_view, resume_table_view, resume_view, resume_throw_ref_view, resume_throw_view};
+ghost use Rattle.wat_print_instr.specs.Control.{catch_kind_form, resume_table_form, catch_form, handler_form, resume_form, throw_form, try_form};
+ghost use Rattle.wat_print_instr.specs.Laws.Control.{catch_prints, handler_prints, resume_prints, resume_table_prints, throw_prints, try_prints};
 
 use crate::control::write_block;
 use crate::traits::{PrintCode, write_each};
@@ -45,7 +37,7 @@ fn write_catch_kind(out: &mut Output, kind: &TryTableCatchKind) -> Result<(), Re
 }
 
 impl PrintCode for TryTableCatch<'_> {
-    ghost View = { CatchTy };
+    ghost View = { CatchModel };
 
     ghost view = { catch_view };
 
@@ -62,7 +54,7 @@ impl PrintCode for TryTableCatch<'_> {
 }
 
 impl PrintCode for TryTable<'_> {
-    ghost View = { TryTy };
+    ghost View = { TryTableModel };
 
     ghost view = { try_view };
 
@@ -77,7 +69,7 @@ impl PrintCode for TryTable<'_> {
 }
 
 impl PrintCode for Handle<'_> {
-    ghost View = { HandleTy };
+    ghost View = { HandleModel };
 
     ghost view = { handle_view };
 
@@ -104,7 +96,7 @@ impl PrintCode for Handle<'_> {
 }
 
 impl PrintCode for ResumeTable<'_> {
-    ghost View = { List HandleTy };
+    ghost View = { List HandleModel };
 
     ghost view = { resume_table_view };
 
@@ -118,7 +110,7 @@ impl PrintCode for ResumeTable<'_> {
 }
 
 impl PrintCode for Resume<'_> {
-    ghost View = { ResumeTy };
+    ghost View = { ResumeModel };
 
     ghost view = { resume_view };
 
@@ -133,7 +125,7 @@ impl PrintCode for Resume<'_> {
 }
 
 impl PrintCode for ResumeThrow<'_> {
-    ghost View = { ThrowTy };
+    ghost View = { ResumeThrowModel };
 
     ghost view = { resume_throw_view };
 
@@ -149,7 +141,7 @@ impl PrintCode for ResumeThrow<'_> {
 }
 
 impl PrintCode for ResumeThrowRef<'_> {
-    ghost View = { ResumeTy };
+    ghost View = { ResumeModel };
 
     ghost view = { resume_throw_ref_view };
 

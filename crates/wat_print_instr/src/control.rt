@@ -2,28 +2,16 @@
 #![tactic(auto, using(wat_print::specs::Laws::Written::put_both))]
 
 ghost use Rattle.std.specs.Prelude.{◌≡◌, List, Option, refl};
-ghost use Rattle.wat_types.specs.Reference.{RefTy, ref_type};
-ghost use Rattle.wat_types.specs.Value.{ValTy};
-ghost use Rattle.wat_operands.specs.Block.{BlockTy, signature_view, block_view, block_type};
-ghost use Rattle.wat_operands.specs.Call.{CallTy, call_view, call_indirect};
-ghost use Rattle.wat_operands.specs.Casts.{test_view, cast_view, cast_desc_eq_view, BranchTy};
-ghost use Rattle.wat_operands.specs.Casts.{branch_between, branch_view, branch_fail_view};
-ghost use Rattle.wat_operands.specs.Casts.{branch_desc_eq_view, branch_desc_eq_fail_view};
-ghost use Rattle.wat_operands.specs.Casts.{cast_branch};
-ghost use Rattle.wat_operands.specs.Select.{select_view, select_types};
-ghost use Rattle.wat_print.specs.Function.{param_label};
-ghost use Rattle.wat_print.specs.Label.{none_labelled};
-ghost use Rattle.wat_print.specs.Parts.{if_some};
-ghost use Rattle.wat_print.specs.Printed.{printing_by};
-ghost use Rattle.wat_print.specs.Prints.{Printed};
-ghost use Rattle.wat_print.specs.Reference.{ref_form};
-ghost use Rattle.wat_print.specs.Use.{unnamed_use_form};
-ghost use Rattle.wat_print.specs.Laws.Reference.{ref_prints};
+ghost use Rattle.wat_expr.specs.Prelude.{BlockTypeModel, block_type, CallIndirectModel, call_indirect, select_types};
+ghost use Rattle.wat_print.specs.Laws.Prelude.{RefTypeModel, ref_type, ValTypeModel, param_label, none_labelled, if_some, printing_by, Printed, ref_form, unnamed_use_form, ref_prints};
+ghost use Rattle.wat_operands.specs.Block.{signature_view, block_view};
+ghost use Rattle.wat_operands.specs.Call.{call_view};
+ghost use Rattle.wat_operands.specs.Select.{select_view};
+ghost use Rattle.wat_operands.specs.Casts.{test_view, cast_view, cast_desc_eq_view, CastBranchModel, branch_between, branch_view, branch_fail_view, branch_desc_eq_view, branch_desc_eq_fail_view, cast_branch};
 ghost use Rattle.wat_print_instr.specs.Control.{block_form, branch_form, call_form, select_form};
-ghost use Rattle.wat_print_instr.specs.Laws.Control.{block_prints, branch_prints, call_prints};
-ghost use Rattle.wat_print_instr.specs.Laws.Control.{select_prints};
+ghost use Rattle.wat_print_instr.specs.Laws.Control.{block_prints, branch_prints, call_prints, select_prints};
 
-use crate::places::write_index_or_0;
+use crate::indices::write_index_or_0;
 use crate::traits::PrintCode;
 use wat_operands::{
     BlockType, BrOnCast, BrOnCastDescEq, BrOnCastDescEqFail, BrOnCastFail, CallIndirect, RefCast,
@@ -84,7 +72,7 @@ fn write_branch(
 }
 
 impl PrintCode for BlockType<'_> {
-    ghost View = { BlockTy };
+    ghost View = { BlockTypeModel };
 
     ghost view = { block_view };
 
@@ -99,7 +87,7 @@ impl PrintCode for BlockType<'_> {
 
 /// It fails with Label if a parameter of the type has an identifier or a name.
 impl PrintCode for CallIndirect<'_> {
-    ghost View = { CallTy };
+    ghost View = { CallIndirectModel };
 
     ghost view = { call_view };
 
@@ -114,7 +102,7 @@ impl PrintCode for CallIndirect<'_> {
 }
 
 impl PrintCode for SelectTypes<'_> {
-    ghost View = { Option (List ValTy) };
+    ghost View = { Option (List ValTypeModel) };
 
     ghost view = { select_view };
 
@@ -136,7 +124,7 @@ impl PrintCode for SelectTypes<'_> {
 }
 
 impl PrintCode for RefTest<'_> {
-    ghost View = { RefTy };
+    ghost View = { RefTypeModel };
 
     ghost view = { test_view };
 
@@ -150,7 +138,7 @@ impl PrintCode for RefTest<'_> {
 }
 
 impl PrintCode for RefCast<'_> {
-    ghost View = { RefTy };
+    ghost View = { RefTypeModel };
 
     ghost view = { cast_view };
 
@@ -164,7 +152,7 @@ impl PrintCode for RefCast<'_> {
 }
 
 impl PrintCode for RefCastDescEq<'_> {
-    ghost View = { RefTy };
+    ghost View = { RefTypeModel };
 
     ghost view = { cast_desc_eq_view };
 
@@ -178,7 +166,7 @@ impl PrintCode for RefCastDescEq<'_> {
 }
 
 impl PrintCode for BrOnCast<'_> {
-    ghost View = { BranchTy };
+    ghost View = { CastBranchModel };
 
     ghost view = { branch_view };
 
@@ -192,7 +180,7 @@ impl PrintCode for BrOnCast<'_> {
 }
 
 impl PrintCode for BrOnCastFail<'_> {
-    ghost View = { BranchTy };
+    ghost View = { CastBranchModel };
 
     ghost view = { branch_fail_view };
 
@@ -206,7 +194,7 @@ impl PrintCode for BrOnCastFail<'_> {
 }
 
 impl PrintCode for BrOnCastDescEq<'_> {
-    ghost View = { BranchTy };
+    ghost View = { CastBranchModel };
 
     ghost view = { branch_desc_eq_view };
 
@@ -220,7 +208,7 @@ impl PrintCode for BrOnCastDescEq<'_> {
 }
 
 impl PrintCode for BrOnCastDescEqFail<'_> {
-    ghost View = { BranchTy };
+    ghost View = { CastBranchModel };
 
     ghost view = { branch_desc_eq_fail_view };
 

@@ -1,20 +1,8 @@
 //! Printing of expressions.
 
-ghost use Rattle.std.specs.Prelude.{◌≡◌, ◌≢◌, ◌&&◌, [], OnOk, IfOk, IfErr, true, false, map};
-ghost use Rattle.std.specs.Prelude.{string_bytes};
-ghost use Rattle.wat_instr.specs.Instruction.{instruction_view};
-ghost use Rattle.wat_expr.specs.Expression.{expression_view, hint_view};
-ghost use Rattle.wat_expr.specs.ExpressionProduction.{expression};
-ghost use Rattle.wat_print.specs.Layout.{Writes};
-ghost use Rattle.wat_print.specs.Parts.{spell_option, if_some};
-ghost use Rattle.wat_print.specs.Printed.{NoneSpells};
-ghost use Rattle.wat_print.specs.Text.{put, printed_text};
-ghost use Rattle.wat_print.specs.declared.fault.Refused.TheVariants.{Memory};
-ghost use Rattle.wat_print.specs.declared.output.Layout.TheVariants.{Line};
-ghost use Rattle.wat_print_instr.specs.ExpressionForm.{step_of, spell_hint, printable_hint};
-ghost use Rattle.wat_print_instr.specs.ExpressionForm.{spell_step, printable_step, hint_for};
-ghost use Rattle.wat_print_instr.specs.ExpressionForm.{hints_after, spell_expression};
-ghost use Rattle.wat_print_instr.specs.ExpressionForm.{printable_expression};
+ghost use Rattle.std.specs.Prelude.{string_bytes, ◌≡◌, ◌≢◌, ◌&&◌, [], OnOk, IfOk, IfErr, true, false, map};
+ghost use Rattle.wat_print_instr.specs.Prelude.{instruction_view, expression_view, hint_view, expression, Writes, spell_option, if_some, NoneSpells, put, printed_text, Memory, Line, step_of, spell_hint, spell_step, printable_step, hint_for, hints_after, spell_expression, printable_expression};
+ghost use Rattle.wat_print_instr.specs.ExpressionForm.{printable_hint};
 ghost use Rattle.wat_tokens.specs.Whole.{TextSpells};
 
 use crate::traits::PrintCode;

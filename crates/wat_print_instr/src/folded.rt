@@ -1,22 +1,8 @@
 //! Printing of folded instructions.
 
-ghost use Rattle.std.specs.Prelude.{◌≡◌, ◌≢◌, ◌&&◌, [], ◌∷◌, ◌++◌, OnOk, IfErr, IfSome};
-ghost use Rattle.std.specs.Prelude.{MatchOption, Some, None, true, false, is_some, map, refl};
-ghost use Rattle.wat_instr.specs.Instruction.{instruction_view};
-ghost use Rattle.wat_expr.specs.Expression.{Expr, expression_view};
-ghost use Rattle.wat_expr.specs.Folded.{Group};
-ghost use Rattle.wat_expr.specs.FoldedProduction.{folded_instruction};
-ghost use Rattle.wat_print.specs.Form.{any, many_form};
-ghost use Rattle.wat_print.specs.Parts.{each, spell_option};
+ghost use Rattle.std.specs.Prelude.{IfSome, MatchOption, ◌≡◌, ◌≢◌, ◌&&◌, [], ◌∷◌, ◌++◌, OnOk, IfErr, Some, None, true, false, is_some, map, refl};
+ghost use Rattle.wat_print_instr.specs.Prelude.{instruction_view, ExpressionModel, expression_view, Group, folded_instruction, any, many_form, each, spell_option, Printed, put, Memory, takes_catches, is_catch, op_of, keeps_apart, own_groups, first_apart, catch_first, groups_behind, spell_groups, printable_folded, spell_folded, own_form, printable_instruction};
 ghost use Rattle.wat_print.specs.Printed.{printing_at_end};
-ghost use Rattle.wat_print.specs.Prints.{Printed};
-ghost use Rattle.wat_print.specs.Text.{put};
-ghost use Rattle.wat_print.specs.declared.fault.Refused.TheVariants.{Memory};
-ghost use Rattle.wat_print_instr.specs.FoldedForm.{takes_catches, is_catch, op_of, keeps_apart};
-ghost use Rattle.wat_print_instr.specs.FoldedForm.{own_groups, first_apart, catch_first};
-ghost use Rattle.wat_print_instr.specs.FoldedForm.{groups_behind, spell_groups, printable_folded};
-ghost use Rattle.wat_print_instr.specs.FoldedForm.{spell_folded, own_form};
-ghost use Rattle.wat_print_instr.specs.InstructionForm.{printable_instruction};
 ghost use Rattle.wat_print_instr.specs.Laws.Folded.{folded_here, folded_well_formed};
 ghost use Rattle.wat_print_instr.specs.Laws.FoldedOnly.{folded_only};
 
@@ -123,7 +109,7 @@ fn write_apart(out: &mut Output, instrs: &[Instruction]) -> Result<(), Refused>
 }
 
 /// Whether the group of `first`, directly after `last`, is read as a catch clause.
-#[tactic(auto, using(wat_mnemonics::specs::Laws::Places::there))]
+#[tactic(auto, using(wat_mnemonics::specs::Laws::TableIndex::there))]
 fn is_taken(last: &Instruction, first: &Instruction) -> bool
     ensures { result ≡ takes_catches (op_of (instruction_view last.now))
         && is_catch (op_of (instruction_view first.now)) }
@@ -164,7 +150,7 @@ fn write_behind(out: &mut Output, last: &Instruction, instrs: &[Instruction]) ->
 /// The last instruction comes first in the group, and the groups of the others follow. It fails
 /// with Hint if there is a hint, and with Folded if no group has these instructions.
 impl PrintCode for FoldedInstruction<'_> {
-    ghost View = { Expr };
+    ghost View = { ExpressionModel };
 
     ghost view = { λ folded. expression_view folded.0 };
 

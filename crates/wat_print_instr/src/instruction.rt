@@ -1,18 +1,11 @@
 //! Printing of instructions.
 
 ghost use Rattle.std.specs.Prelude.{[]};
-ghost use Rattle.wat_tokens.specs.Index.{name_of};
-ghost use Rattle.wat_tokens.specs.Views.{option_view};
-ghost use Rattle.wat_instr.specs.Instruction.{Instr, op_in, operand_in, instruction_view};
-ghost use Rattle.wat_instr.specs.Instruction.{instruction, block_in};
+ghost use Rattle.wat_print_instr.specs.Laws.Prelude.{name_of, option_view, InstructionModel, instruction_view, instruction, Printed, operand_form, printable_instruction, spell_instruction, ends_nothing, instruction_here, instruction_only, instruction_well_formed};
+ghost use Rattle.wat_instr.specs.Instruction.{op_in, operand_in, block_in};
 ghost use Rattle.wat_print.specs.Printed.{printing_at_end};
-ghost use Rattle.wat_print.specs.Prints.{Printed};
 ghost use Rattle.wat_print_instr.specs.Access.{fence_form};
 ghost use Rattle.wat_print_instr.specs.Control.{block_form, end_label_form};
-ghost use Rattle.wat_print_instr.specs.InstructionForm.{operand_form, printable_instruction};
-ghost use Rattle.wat_print_instr.specs.InstructionForm.{spell_instruction};
-ghost use Rattle.wat_print_instr.specs.Laws.Instruction.{ends_nothing, instruction_here};
-ghost use Rattle.wat_print_instr.specs.Laws.Instruction.{instruction_only, instruction_well_formed};
 
 use crate::access::{write_access, write_atomic, write_lane_access};
 use crate::control::write_block;
@@ -115,7 +108,7 @@ fn write_operand(out: &mut Output, instr: &Instruction) -> Result<(), Refused>
 /// It fails with Float for a floating-point constant. The type of each operand documents its other
 /// errors.
 impl PrintCode for Instruction<'_> {
-    ghost View = { Instr };
+    ghost View = { InstructionModel };
 
     ghost view = { instruction_view };
 

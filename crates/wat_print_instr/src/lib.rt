@@ -11,10 +11,10 @@ pub mod caught;
 pub mod control;
 pub mod expression;
 pub mod folded;
+pub mod indices;
 pub mod instruction;
 pub mod laws;
 pub mod numbers;
-pub mod places;
 pub mod traits;
 pub mod vectors;
 

@@ -1,18 +1,11 @@
 //! Printing of numbers.
 
 ghost use Rattle.std.specs.Prelude.{◌≡◌, ◌∷◌, [], ℕ, ℤ, OnOk, IfErr, refl};
-ghost use Rattle.std.specs.Fmt.{signed_decimal};
 ghost use Rattle.std.proofs.Common.{lit≤};
-ghost use Rattle.wat_lexer.specs.Token.{Integer};
+ghost use Rattle.wat_print_instr.specs.Laws.Prelude.{signed_decimal, Integer, signed, unsigned, printing_by, put, Memory, signed_form, unsigned_form, halves_32, halves_64, signed_prints, unsigned_prints};
+ghost use Rattle.wat_print_instr.specs.Laws.Numbers.{halves_16, halves_8};
 ghost use Rattle.wat_tokens.specs.Floats.{none};
-ghost use Rattle.wat_tokens.specs.Integers.{signed, unsigned};
-ghost use Rattle.wat_print.specs.Printed.{printing_by};
-ghost use Rattle.wat_print.specs.Text.{put};
-ghost use Rattle.wat_print.specs.declared.fault.Refused.TheVariants.{Memory};
-ghost use Rattle.wat_print_instr.specs.Numbers.{signed_form, unsigned_form};
 ghost use Rattle.wat_print_instr.specs.Vectors.{never_form};
-ghost use Rattle.wat_print_instr.specs.Laws.Numbers.{halves_16, halves_32, halves_64, halves_8};
-ghost use Rattle.wat_print_instr.specs.Laws.Numbers.{signed_prints, unsigned_prints};
 ghost use Rattle.wat_print_instr.specs.Laws.Vectors.{none_prints};
 
 use crate::traits::PrintCode;

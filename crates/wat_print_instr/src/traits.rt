@@ -1,11 +1,7 @@
 //! The values that are printed on one line.
 
 ghost use Rattle.std.specs.Prelude.{map};
-ghost use Rattle.wat_tokens.specs.Production.{Production};
-ghost use Rattle.wat_print.specs.Form.{any, many_form};
-ghost use Rattle.wat_print.specs.Printed.{Printing};
-ghost use Rattle.wat_print.specs.Prints.{Printed};
-ghost use Rattle.wat_print_instr.specs.Form.{exactly};
+ghost use Rattle.wat_print_instr.specs.Prelude.{Production, any, many_form, Printing, Printed, exactly};
 
 use wat_print::{Output, Print, Refused};
 

@@ -1,12 +1,7 @@
 -- Fields of the `producers` section.
-use Rattle.std.specs.Prelude.{◌≡◌, ℕ, ◌==◌, true, false, not, ◌&&◌, List, [], ◌∷◌, length, map}
+use Rattle.std.proofs.Common.{◌≡◌, ℕ, ◌==◌, true, false, not, ◌&&◌, List, [], ◌∷◌, length, map, refl, arith}
 use Rattle.std.specs.Borrow.{Bor}
-use Rattle.std.proofs.Common.{refl, arith}
-use Rattle.std.proofs.lemmas.Bool.Decides.{nat_tests}
-use Rattle.wat_tokens.specs.Views.{no_items}
-use Rattle.wat_links.specs.Producers.{names_view}
-use Rattle.wat_print.specs.Parts.{each}
-use Rattle.wat_print_module.specs.Producers.{versioned_form}
+use Rattle.wat_print_module.specs.Prelude.{nat_tests, no_items, names_view, each, versioned_form}
 
 pub empty_seen : {X A : Type 0} (view : X → A) (xs : List X)
     → (length xs == 0) ≡ no_items (map view xs)

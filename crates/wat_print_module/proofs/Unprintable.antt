@@ -1,10 +1,7 @@
 -- Fields that can't be written, by their numbers.
-use Rattle.std.specs.Prelude.{◌≡◌, ℕ, zero, suc, ◌<◌, false, List, [], ◌∷◌, length, map, Some}
-use Rattle.std.specs.Prelude.{slice_get}
-use Rattle.std.proofs.Common.{refl, ap, sym, ◌∙◌, get_or, arith}
-use Rattle.wat_core.specs.Field.{ModuleField, field_view}
-use Rattle.wat_print_module.specs.Field.{field_form}
-use Rattle.wat_print_module.specs.Module.{UnprintableField}
+use Rattle.std.proofs.Common.{◌≡◌, ℕ, zero, suc, ◌<◌, false, List, [], ◌∷◌, length, map, Some, slice_get, refl, ap, sym, ◌∙◌, get_or, arith}
+use Rattle.wat_print_module.specs.Prelude.{field_view, field_form, UnprintableField}
+use Rattle.wat_core.specs.Field.{ModuleField}
 
 get_seen : {X A : Type 0} (view : X → A) (xs : List X) (i : ℕ) (d : X) → i < length xs
     → slice_get (map view xs) i ≡ Some (view (get_or xs i d))

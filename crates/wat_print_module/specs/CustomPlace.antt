@@ -1,29 +1,10 @@
 -- How the places of custom sections are written.
 use Rattle.std.specs.Prelude.{ℕ, true, List, Option, Some, None, codes, ◌⊎◌}
 use Rattle.std.proofs.Common.{inl, inr}
-use Rattle.wat_tokens.specs.Tests.{begins_word, begins_lparen}
-use Rattle.wat_links.specs.declared.custom_place.CustomPlace.{CustomPlace}
-use Rattle.wat_links.specs.declared.custom_place.CustomPlace.TheVariants.{BeforeFirst, Before}
-use Rattle.wat_links.specs.declared.custom_place.CustomPlace.TheVariants.{After, AfterLast}
+use Rattle.wat_core.specs.Prelude.{CustomPlace, BeforeFirst, Before, After, AfterLast, section_word}
+use Rattle.wat_print_instr.specs.Prelude.{begins_word, begins_lparen, Form, word_form, by_where, else_form, option_form, paren_form, after_form, named_form}
 use Rattle.wat_links.specs.declared.custom_place.CustomPlaceAnchor.{CustomPlaceAnchor}
 use Rattle.wat_links.specs.declared.custom_place.CustomPlaceAnchor.TheVariants as anchor
-use Rattle.wat_print.specs.Form.{Form, word_form, by_where, else_form, option_form, paren_form}
-use Rattle.wat_print.specs.Form.{after_form}
-use Rattle.wat_print.specs.Reference.{named_form}
-
-abbrev pub section_word : CustomPlaceAnchor → List ℕ
-section_word anchor.«Type» = codes "type"
-section_word anchor.Import = codes "import"
-section_word anchor.Func = codes "func"
-section_word anchor.Table = codes "table"
-section_word anchor.Memory = codes "memory"
-section_word anchor.Global = codes "global"
-section_word anchor.Export = codes "export"
-section_word anchor.Start = codes "start"
-section_word anchor.Elem = codes "elem"
-section_word anchor.Code = codes "code"
-section_word anchor.Data = codes "data"
-section_word anchor.Tag = codes "tag"
 
 abbrev pub section_form : Form CustomPlaceAnchor
 section_form = named_form section_word

@@ -1,16 +1,9 @@
 -- How the `dylink.0` section is written.
 use Rattle.std.specs.Prelude.{ℕ, Bool, true, false, ◌&&◌, List, [], ◌∷◌, Some, codes, flat_map, ◌⊎◌}
 use Rattle.std.proofs.Common.{inl, inr}
-use Rattle.wat_tokens.specs.Tests.{begins_group, begins_word, second, more}
-use Rattle.wat_links.specs.Dylink.{SubsectionTy, mem_info, needed, export_info, import_info}
-use Rattle.wat_links.specs.Dylink.{runtime_path, target_arch, begins_export, begins_import}
-use Rattle.wat_links.specs.Entries.{EntryTy, of_export, of_import, other, entries_in}
-use Rattle.wat_print.specs.Form.{Form, seq_form, by, by_where, else_form, filled_form, many_form}
-use Rattle.wat_print.specs.Form.{group_form}
-use Rattle.wat_print.specs.Strings.{text_form}
-use Rattle.wat_print_instr.specs.Form.{plain_form}
-use Rattle.wat_print_instr.specs.Numbers.{is_unsigned, unsigned_form}
-use Rattle.wat_print.specs.Annotation.{annotation_form}
+use Rattle.wat_core.specs.Prelude.{Dylink0SubsectionModel, mem_info, needed, export_info, import_info, runtime_path, target_arch, Dylink0Entry, of_export, of_import, other, entries_in}
+use Rattle.wat_print_instr.specs.Prelude.{begins_group, begins_word, second, more, Form, seq_form, by, by_where, else_form, filled_form, many_form, group_form, text_form, plain_form, is_unsigned, unsigned_form, annotation_form}
+use Rattle.wat_links.specs.Dylink.{begins_export, begins_import}
 
 -- ---- entries of exports and of imports
 
@@ -49,7 +42,7 @@ names_form w = group_form w (many_form more text_form)
 abbrev pub Lone : Type 0
 Lone = (ℕ × ℕ) × (ℕ × ℕ) ⊎ (List (List ℕ) ⊎ (List (List ℕ) ⊎ List ℕ))
 
-abbrev pub lone_parts : SubsectionTy → Lone
+abbrev pub lone_parts : Dylink0SubsectionModel → Lone
 lone_parts (mem_info ms ma ts ta) = inl ((ms, ma), (ts, ta))
 lone_parts (needed ns) = inr (inl ns)
 lone_parts (runtime_path ns) = inr (inr (inl ns))
@@ -65,59 +58,59 @@ tree_form =
     (group_form (codes "target-arch") text_form)))
 
 -- the subsection is of neither exports nor imports
-abbrev pub is_lone : SubsectionTy → Bool
+abbrev pub is_lone : Dylink0SubsectionModel → Bool
 is_lone (export_info es) = false
 is_lone (import_info es) = false
 is_lone _ = true
 
-abbrev pub printable_lone : SubsectionTy → Bool
+abbrev pub printable_lone : Dylink0SubsectionModel → Bool
 printable_lone s = is_lone s && tree_form.printable (lone_parts s)
 
-abbrev pub lone_form : Form SubsectionTy
+abbrev pub lone_form : Form Dylink0SubsectionModel
 lone_form = by_where printable_lone lone_parts tree_form
 
 -- ---- any entry
 
-abbrev pub entry_parts : EntryTy → List ℕ × ℕ ⊎ (List ℕ × List ℕ × ℕ ⊎ SubsectionTy)
+abbrev pub entry_parts : Dylink0Entry → List ℕ × ℕ ⊎ (List ℕ × List ℕ × ℕ ⊎ Dylink0SubsectionModel)
 entry_parts (of_export e) = inl e
 entry_parts (of_import e) = inr (inl e)
 entry_parts (other s) = inr (inr s)
 
-abbrev pub entry_form : Form EntryTy
+abbrev pub entry_form : Form Dylink0Entry
 entry_form =
     by entry_parts (else_form begins_export export_form
     (else_form begins_import import_form lone_form))
 
-abbrev pub entries_form : Form (List EntryTy)
+abbrev pub entries_form : Form (List Dylink0Entry)
 entries_form = many_form more entry_form
 
 -- ---- subsections that can be written
 
 -- a subsection of exports or of imports has an entry
-abbrev pub is_filled : SubsectionTy → Bool
+abbrev pub is_filled : Dylink0SubsectionModel → Bool
 is_filled (export_info []) = false
 is_filled (import_info []) = false
 is_filled _ = true
 
 -- the subsection and the first of the others aren't both of exports or both of imports
-abbrev pub is_apart : SubsectionTy → List SubsectionTy → Bool
+abbrev pub is_apart : Dylink0SubsectionModel → List Dylink0SubsectionModel → Bool
 is_apart (export_info es) (export_info fs ∷ ss) = false
 is_apart (import_info es) (import_info fs ∷ ss) = false
 is_apart _ _ = true
 
 -- the subsections are as parsed: adjacent entries of one kind form one subsection
-abbrev pub are_cut : List SubsectionTy → Bool
+abbrev pub are_cut : List Dylink0SubsectionModel → Bool
 are_cut [] = true
 are_cut (s ∷ ss) = is_filled s && (is_apart s ss && are_cut ss)
 
-abbrev pub printable_dylink : List SubsectionTy → Bool
+abbrev pub printable_dylink : List Dylink0SubsectionModel → Bool
 printable_dylink ss = entries_form.printable (flat_map entries_in ss) && are_cut ss
 
-abbrev pub subsections_form : Form (List SubsectionTy)
+abbrev pub subsections_form : Form (List Dylink0SubsectionModel)
 subsections_form =
     plain_form (λ ss. entries_form.spell (flat_map entries_in ss)) printable_dylink
     entries_form.follows
 
 -- @dylink.0 entries
-abbrev pub dylink_form : Form (List SubsectionTy)
+abbrev pub dylink_form : Form (List Dylink0SubsectionModel)
 dylink_form = annotation_form (codes "dylink.0") subsections_form

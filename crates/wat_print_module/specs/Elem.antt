@@ -1,80 +1,71 @@
 -- How element segments and their elements are written.
 use Rattle.std.specs.Prelude.{ℕ, false, List, codes, Option, Some, None, is_none, ◌⊎◌}
 use Rattle.std.proofs.Common.{inl, inr}
-use Rattle.wat_tokens.specs.Index.{Idx}
-use Rattle.wat_tokens.specs.Tests.{begins_word, begins_group, begins_integer, more}
-use Rattle.wat_types.specs.Label.{Label}
-use Rattle.wat_types.specs.Reference.{RefTy, begins_ref}
-use Rattle.wat_expr.specs.Expression.{Expr}
-use Rattle.wat_fields.specs.Elem.{ElemKindTy, passive, declared, active, Segment, ElemTy}
-use Rattle.wat_fields.specs.Elem.{begins_active}
-use Rattle.wat_fields.specs.Payload.{PayloadTy, indices, exprs}
-use Rattle.wat_print.specs.Form.{any, Form, word_form, seq_form, by, by_where, only_where_form}
-use Rattle.wat_print.specs.Form.{else_form, option_form, many_form, blank_form, after_form}
-use Rattle.wat_print.specs.Form.{group_form, unwritten_form}
-use Rattle.wat_print.specs.Index.{index_form}
-use Rattle.wat_print.specs.Label.{label_form}
-use Rattle.wat_print.specs.Reference.{ref_form}
+use Rattle.wat_print_instr.specs.Prelude.{IndexModel, begins_word, begins_group, begins_integer, more, Label, RefTypeModel, begins_ref, ExpressionModel, any, Form, word_form, seq_form, by, by_where, else_form, option_form, many_form, blank_form, after_form, group_form, unwritten_form, index_form, label_form, ref_form, unsigned_form}
+use Rattle.wat_fields.specs.Elem.{ElemKindModel, declared, Segment, ElemModel, passive, active, begins_active}
+use Rattle.wat_fields.specs.Payload.{ElemPayloadModel, indices, exprs}
+use Rattle.wat_print.specs.Form.{only_where_form}
 use Rattle.wat_print_module.specs.Data.{offset_form}
 use Rattle.wat_print_module.specs.Expression.{expression_form}
-use Rattle.wat_print_instr.specs.Numbers.{unsigned_form}
 
 -- ---- elements
 
 -- ( item Expression )
-abbrev pub elem_item_form : Form Expr
+abbrev pub elem_item_form : Form ExpressionModel
 elem_item_form = group_form (codes "item") expression_form
 
 -- ( item Expression )*
-abbrev pub elem_items_form : Form (List Expr)
+abbrev pub elem_items_form : Form (List ExpressionModel)
 elem_items_form = many_form more elem_item_form
 
 -- idx*
-abbrev pub elem_indices_form : Form (List Idx)
+abbrev pub elem_indices_form : Form (List IndexModel)
 elem_indices_form = many_form more index_form
 
 -- RefType ( item Expression )*
-abbrev pub typed_elems_form : Form (RefTy × List Expr)
+abbrev pub typed_elems_form : Form (RefTypeModel × List ExpressionModel)
 typed_elems_form = seq_form ref_form elem_items_form
 
-abbrev pub payload_parts : PayloadTy → List Idx ⊎ RefTy × List Expr
+abbrev pub payload_parts : ElemPayloadModel → List IndexModel ⊎ RefTypeModel × List ExpressionModel
 payload_parts (indices is) = inl is
 payload_parts (exprs t es) = inr (t, es)
 
 -- `func` and indices, or items of a type
-abbrev pub payload_form : Form PayloadTy
+abbrev pub payload_form : Form ElemPayloadModel
 payload_form =
     by payload_parts (else_form (begins_word (codes "func"))
     (after_form (codes "func") elem_indices_form) typed_elems_form)
 
 -- indices without `func` are only read
-abbrev pub bare_indices_form : Form (List Idx)
-bare_indices_form = record (unwritten_form elem_indices_form) { empty = false }
+abbrev pub indices_only_form : Form (List IndexModel)
+indices_only_form = record (unwritten_form elem_indices_form) { empty = false }
 
-abbrev pub any_payload_parts : PayloadTy → List Idx ⊎ (RefTy × List Expr ⊎ List Idx)
+abbrev pub any_payload_parts : ElemPayloadModel
+    → List IndexModel ⊎ (RefTypeModel × List ExpressionModel ⊎ List IndexModel)
 any_payload_parts (indices is) = inl is
 any_payload_parts (exprs t es) = inr (inl (t, es))
 
 -- the same, where indices may also be read without `func`
-abbrev pub any_payload_form : Form PayloadTy
+abbrev pub any_payload_form : Form ElemPayloadModel
 any_payload_form =
     by any_payload_parts (else_form (begins_word (codes "func"))
     (after_form (codes "func") elem_indices_form)
-    (else_form begins_ref typed_elems_form bare_indices_form))
+    (else_form begins_ref typed_elems_form indices_only_form))
 
 -- ---- segments
 
 -- ( table idx )
-abbrev pub elem_table_form : Form Idx
+abbrev pub elem_table_form : Form IndexModel
 elem_table_form = group_form (codes "table") index_form
 
-abbrev pub elem_kind_parts : ElemKindTy → Unit {0} ⊎ (Unit {0} ⊎ Option Idx × Expr)
+abbrev pub elem_kind_parts : ElemKindModel
+    → Unit {0} ⊎ (Unit {0} ⊎ Option IndexModel × ExpressionModel)
 elem_kind_parts passive = inl tt
 elem_kind_parts declared = inr (inl tt)
 elem_kind_parts (active t e) = inr (inr (t, e))
 
 -- nothing; `declare`; or the table, if the segment has one, and the offset
-abbrev pub elem_kind_form : Form ElemKindTy
+abbrev pub elem_kind_form : Form ElemKindModel
 elem_kind_form =
     by elem_kind_parts (else_form any blank_form (else_form any (word_form (codes "declare"))
     (seq_form (option_form any elem_table_form) offset_form)))
@@ -85,7 +76,8 @@ mode_form = seq_form elem_kind_form payload_form
 
 abbrev pub SegmentTree : Type 0
 SegmentTree =
-    PayloadTy ⊎ ((Idx × (Expr × PayloadTy) ⊎ Option ℕ × (Expr × PayloadTy)) ⊎ PayloadTy)
+    ElemPayloadModel ⊎ ((IndexModel × (ExpressionModel × ElemPayloadModel) ⊎ Option ℕ
+    × (ExpressionModel × ElemPayloadModel)) ⊎ ElemPayloadModel)
 
 abbrev pub segment_parts : Segment → SegmentTree
 segment_parts (declared, p) = inl p
@@ -107,9 +99,9 @@ abbrev pub segment_form : Form Segment
 segment_form =
     record (by_where mode_form.printable segment_parts segment_tree) { spell = mode_form.spell }
 
-abbrev pub elem_parts : ElemTy → Label × Segment
+abbrev pub elem_parts : ElemModel → Label × Segment
 elem_parts e = (e.label, e.segment)
 
 -- elem id? name? segment
-abbrev pub elem_form : Form ElemTy
+abbrev pub elem_form : Form ElemModel
 elem_form = by elem_parts (after_form (codes "elem") (seq_form label_form segment_form))

@@ -1,10 +1,6 @@
 -- How expressions are written in fields.
 use Rattle.std.specs.Prelude.{not, ◌&&◌, codes}
-use Rattle.wat_tokens.specs.Tests.{begins_word, ends, second}
-use Rattle.wat_expr.specs.Expression.{Expr}
-use Rattle.wat_print.specs.Form.{Test, Form}
-use Rattle.wat_print_instr.specs.ExpressionForm.{spell_expression, printable_expression}
-use Rattle.wat_print_instr.specs.Form.{plain_form}
+use Rattle.wat_print_instr.specs.Prelude.{begins_word, ends, second, ExpressionModel, Test, Form, spell_expression, printable_expression, plain_form}
 
 -- nothing, or `)` without `type`, `param` and `result` after it
 abbrev pub ends_expression : Test
@@ -13,5 +9,5 @@ ends_expression r =
     && (not (second (begins_word (codes "param")) r)
     && not (second (begins_word (codes "result")) r)))
 
-abbrev pub expression_form : Form Expr
+abbrev pub expression_form : Form ExpressionModel
 expression_form = plain_form spell_expression printable_expression ends_expression

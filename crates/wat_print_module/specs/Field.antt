@@ -1,24 +1,10 @@
 -- How the fields of a module are written.
 use Rattle.std.specs.Prelude.{List, codes, ◌⊎◌}
 use Rattle.std.proofs.Common.{inl, inr}
-use Rattle.wat_tokens.specs.Index.{Idx}
-use Rattle.wat_tokens.specs.Tests.{begins_word}
-use Rattle.wat_types.specs.Define.{TypeTy}
-use Rattle.wat_links.specs.Custom.{CustomTy}
-use Rattle.wat_links.specs.Export.{ExportTy}
-use Rattle.wat_links.specs.Import.{ImportsTy}
-use Rattle.wat_fields.specs.Data.{DataTy}
-use Rattle.wat_fields.specs.Elem.{ElemTy}
-use Rattle.wat_fields.specs.Func.{FuncFieldTy}
-use Rattle.wat_fields.specs.Global.{GlobalFieldTy}
-use Rattle.wat_fields.specs.Memory.{MemoryTy}
-use Rattle.wat_fields.specs.Table.{TableFieldTy}
-use Rattle.wat_fields.specs.Tag.{TagTy}
-use Rattle.wat_core.specs.Field.{ModuleFieldTy, a_type, a_rec, an_import, a_func, a_table, a_memory}
-use Rattle.wat_core.specs.Field.{a_global, an_export, a_start, an_elem, a_data, a_tag, a_custom}
+use Rattle.wat_core.specs.Prelude.{IndexModel, begins_word, CustomModel, ExportModel, ImportsModel, DataModel, ElemModel, FuncModel, GlobalModel, MemoryModel, TableModel, TagModel, ModuleFieldModel, a_type, a_rec, an_import, a_func, a_table, a_memory, a_global, an_export, a_start, an_elem, a_data, a_tag, a_custom}
+use Rattle.wat_print_instr.specs.Prelude.{Form, by, else_form, paren_form, after_form, index_form}
+use Rattle.wat_types.specs.Define.{TypeModel}
 use Rattle.wat_print.specs.Define.{type_form, rec_form}
-use Rattle.wat_print.specs.Form.{Form, by, else_form, paren_form, after_form}
-use Rattle.wat_print.specs.Index.{index_form}
 use Rattle.wat_print_module.specs.Custom.{custom_form}
 use Rattle.wat_print_module.specs.Data.{data_form}
 use Rattle.wat_print_module.specs.Elem.{elem_form}
@@ -31,22 +17,22 @@ use Rattle.wat_print_module.specs.Table.{table_field_form}
 use Rattle.wat_print_module.specs.Tag.{tag_form}
 
 -- start idx
-abbrev pub start_form : Form Idx
+abbrev pub start_form : Form IndexModel
 start_form = after_form (codes "start") index_form
 
 -- ---- the kinds of fields, in the order in which the grammar asks for their first word
 
 abbrev pub LateTree : Type 0
-LateTree = Idx ⊎ (ElemTy ⊎ (DataTy ⊎ CustomTy))
+LateTree = IndexModel ⊎ (ElemModel ⊎ (DataModel ⊎ CustomModel))
 
 abbrev pub MiddleTree : Type 0
-MiddleTree = GlobalFieldTy ⊎ (ExportTy ⊎ (TagTy ⊎ LateTree))
+MiddleTree = GlobalModel ⊎ (ExportModel ⊎ (TagModel ⊎ LateTree))
 
 abbrev pub EarlyTree : Type 0
-EarlyTree = FuncFieldTy ⊎ (TableFieldTy ⊎ (MemoryTy ⊎ MiddleTree))
+EarlyTree = FuncModel ⊎ (TableModel ⊎ (MemoryModel ⊎ MiddleTree))
 
 abbrev pub FieldTree : Type 0
-FieldTree = TypeTy ⊎ (List TypeTy ⊎ (ImportsTy ⊎ EarlyTree))
+FieldTree = TypeModel ⊎ (List TypeModel ⊎ (ImportsModel ⊎ EarlyTree))
 
 abbrev pub late_form : Form LateTree
 late_form =
@@ -72,7 +58,7 @@ kinds_form =
     (else_form (begins_word (codes "rec")) rec_form
     (else_form (begins_word (codes "import")) imports_form early_form))
 
-abbrev pub field_parts : ModuleFieldTy → FieldTree
+abbrev pub field_parts : ModuleFieldModel → FieldTree
 field_parts (a_type t) = inl t
 field_parts (a_rec ts) = inr (inl ts)
 field_parts (an_import i) = inr (inr (inl i))
@@ -88,9 +74,9 @@ field_parts (a_data d) = inr (inr (inr (inr (inr (inr (inr (inr (inr (inr (inr (
 field_parts (a_custom c) = inr (inr (inr (inr (inr (inr (inr (inr (inr (inr (inr (inr c)))))))))))
 
 -- a field without its parentheses
-abbrev pub content_form : Form ModuleFieldTy
+abbrev pub content_form : Form ModuleFieldModel
 content_form = by field_parts kinds_form
 
 -- ( ModuleField )
-abbrev pub field_form : Form ModuleFieldTy
+abbrev pub field_form : Form ModuleFieldModel
 field_form = paren_form content_form

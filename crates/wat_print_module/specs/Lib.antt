@@ -44,3 +44,4 @@ pub mod CustomPlace
 pub mod Producers
 pub mod Table
 pub mod Tag
+pub mod Prelude

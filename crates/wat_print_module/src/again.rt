@@ -1,11 +1,9 @@
 //! Printing a module and reading the text again.
 
 ghost use Rattle.std.specs.Prelude.{◌≡◌, ◌≢◌, IfOk, IfErr};
-ghost use Rattle.wat_core.specs.Module.{module_view, module_};
-ghost use Rattle.wat_print.specs.Printed.{NoneSpells};
+ghost use Rattle.wat_print_module.specs.Prelude.{module_view, module_, NoneSpells, paren};
 ghost use Rattle.wat_print.specs.declared.fault.Refused.TheVariants.{Memory};
 ghost use Rattle.wat_print_module.specs.Module.{NonePart};
-ghost use Rattle.wat_tokens.specs.Groups.{paren};
 
 use crate::module::{ModuleRefused, print_module};
 use bumpalo::Bump;

@@ -1,11 +1,8 @@
 //! Printing of custom sections.
 
 ghost use Rattle.std.specs.Prelude.{refl};
-ghost use Rattle.wat_tokens.specs.Groups.{paren};
-ghost use Rattle.wat_links.specs.Custom.{CustomTy, custom_view, custom};
-ghost use Rattle.wat_print.specs.Form.{paren_form};
-ghost use Rattle.wat_print.specs.Printed.{printing_by};
-ghost use Rattle.wat_print.specs.Prints.{Printed};
+ghost use Rattle.wat_core.specs.Prelude.{paren, CustomModel, custom_view, custom};
+ghost use Rattle.wat_print_instr.specs.Prelude.{paren_form, printing_by, Printed};
 ghost use Rattle.wat_print_module.specs.Custom.{custom_form};
 ghost use Rattle.wat_print_module.specs.Laws.Custom.{custom_prints};
 
@@ -29,7 +26,7 @@ pub fn write_custom(out: &mut Output, section: &Custom) -> Result<(), Refused>
 
 /// Printed with its parentheses, since an annotation follows a `(`.
 impl PrintPart for Custom<'_> {
-    ghost View = { CustomTy };
+    ghost View = { CustomModel };
 
     ghost view = { custom_view };
 

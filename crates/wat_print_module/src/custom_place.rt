@@ -1,37 +1,15 @@
 //! Printing of the places of custom sections.
 
 ghost use Rattle.std.specs.Prelude.{◌≡◌, IfErr, refl};
+ghost use Rattle.wat_print_instr.specs.Prelude.{printing_by, Printed, Memory};
 ghost use Rattle.wat_links.specs.CustomPlace.{section, custom_place};
-ghost use Rattle.wat_print.specs.Printed.{printing_by};
-ghost use Rattle.wat_print.specs.Prints.{Printed};
-ghost use Rattle.wat_print.specs.declared.fault.Refused.TheVariants.{Memory};
-ghost use Rattle.wat_print_module.specs.CustomPlace.{section_word, place_form, place_group_form};
-ghost use Rattle.wat_print_module.specs.CustomPlace.{section_form};
+ghost use Rattle.wat_print_module.specs.CustomPlace.{place_form, place_group_form, section_form};
 ghost use Rattle.wat_print_module.specs.Laws.CustomPlace.{place_prints, section_prints};
 
 use crate::traits::PrintPart;
 use wat_links::{CustomPlace, CustomPlaceAnchor};
 use wat_print::{Output, Refused};
-
-/// The word of a known section.
-fn word_of(section: CustomPlaceAnchor) -> &'static str
-    ensures { result.now ≡ section_word section }
-{
-    match section {
-        CustomPlaceAnchor::Type => "type",
-        CustomPlaceAnchor::Import => "import",
-        CustomPlaceAnchor::Func => "func",
-        CustomPlaceAnchor::Table => "table",
-        CustomPlaceAnchor::Memory => "memory",
-        CustomPlaceAnchor::Global => "global",
-        CustomPlaceAnchor::Export => "export",
-        CustomPlaceAnchor::Start => "start",
-        CustomPlaceAnchor::Elem => "elem",
-        CustomPlaceAnchor::Code => "code",
-        CustomPlaceAnchor::Data => "data",
-        CustomPlaceAnchor::Tag => "tag",
-    }
-}
+use wat_tokens::words::NamedByKeyword;
 
 /// Writes the place of a custom section, without its parentheses (Text Format, "Custom
 /// Annotation").
@@ -46,11 +24,11 @@ pub fn write_place(out: &mut Output, place: CustomPlace) -> Result<(), Refused>
         }
         CustomPlace::Before(section) => {
             out.word("before")?;
-            out.word(word_of(section))
+            out.word(section.word())
         }
         CustomPlace::After(section) => {
             out.word("after")?;
-            out.word(word_of(section))
+            out.word(section.word())
         }
         CustomPlace::AfterLast => {
             out.word("after")?;
@@ -86,7 +64,7 @@ impl PrintPart for CustomPlaceAnchor {
 
     #[tactic(auto, using(wat_print::specs::Laws::Written::puts_put))]
     fn write(&self, out: &mut Output) -> Result<(), Refused> {
-        out.word(word_of(*self))
+        out.word(self.word())
     }
 }
 

@@ -1,16 +1,9 @@
 //! Printing of data segments.
 
 ghost use Rattle.std.specs.Prelude.{refl};
-ghost use Rattle.wat_tokens.specs.Groups.{paren};
-ghost use Rattle.wat_tokens.specs.Index.{index_view};
-ghost use Rattle.wat_expr.specs.Expression.{expression_view};
-ghost use Rattle.wat_fields.specs.Data.{data_kind_view, DataTy, data_view, data_segment};
-ghost use Rattle.wat_print.specs.Form.{paren_form};
-ghost use Rattle.wat_print.specs.Printed.{printing_by};
-ghost use Rattle.wat_print.specs.Prints.{Printed, PrintedLines};
-ghost use Rattle.wat_print.specs.Laws.Form.{paren_prints};
-ghost use Rattle.wat_print_module.specs.Data.{offset_form, data_memory_form, data_kind_form};
-ghost use Rattle.wat_print_module.specs.Data.{data_form};
+ghost use Rattle.wat_print_instr.specs.Laws.Prelude.{paren, index_view, expression_view, paren_form, printing_by, Printed, PrintedLines, paren_prints};
+ghost use Rattle.wat_fields.specs.Data.{data_kind_view, DataModel, data_view, data_segment};
+ghost use Rattle.wat_print_module.specs.Data.{offset_form, data_memory_form, data_kind_form, data_form};
 ghost use Rattle.wat_print_module.specs.Laws.Data.{data_prints};
 
 use crate::data_val::write_data_vals;
@@ -21,7 +14,7 @@ use wat_print::label::write_label;
 use wat_print::reference::write_index;
 use wat_print::{Output, Refused};
 use wat_print_instr::expression::write_constant;
-use wat_print_instr::places::is_index_0;
+use wat_print_instr::indices::is_index_0;
 use wat_tokens::Index;
 
 /// Writes `( offset Expression )`.
@@ -88,7 +81,7 @@ pub fn write_grouped_data(out: &mut Output, segment: &Data) -> Result<(), Refuse
 
 /// Printed with its parentheses: only the `)` shows that a segment without values is passive.
 impl PrintPart for Data<'_> {
-    ghost View = { DataTy };
+    ghost View = { DataModel };
 
     ghost view = { data_view };
 

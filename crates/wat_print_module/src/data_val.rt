@@ -1,10 +1,8 @@
 //! Printing of the values of data segments.
 
 ghost use Rattle.std.specs.Prelude.{◌≡◌, IfErr, refl};
-ghost use Rattle.wat_fields.specs.DataVal.{DataValTy, data_val_view, data_vals_view, data_val};
-ghost use Rattle.wat_print.specs.Printed.{printing_by};
-ghost use Rattle.wat_print.specs.Prints.{Printed};
-ghost use Rattle.wat_print.specs.declared.fault.Refused.TheVariants.{Memory};
+ghost use Rattle.wat_print_instr.specs.Prelude.{printing_by, Printed, Memory};
+ghost use Rattle.wat_fields.specs.DataVal.{DataValModel, data_val_view, data_vals_view, data_val};
 ghost use Rattle.wat_print_module.specs.DataVal.{bytes_form, data_val_form, data_vals_form};
 ghost use Rattle.wat_print_module.specs.Laws.DataVal.{data_val_prints};
 
@@ -57,7 +55,7 @@ pub fn write_data_vals(out: &mut Output, values: &[DataVal]) -> Result<(), Refus
 }
 
 impl PrintPart for DataVal<'_> {
-    ghost View = { DataValTy };
+    ghost View = { DataValModel };
 
     ghost view = { data_val_view };
 

@@ -1,18 +1,11 @@
 //! Printing of the `dylink.0` section.
 
 ghost use Rattle.std.specs.Prelude.{◌≡◌, List, map, flat_map, refl};
-ghost use Rattle.wat_tokens.specs.Groups.{paren};
-ghost use Rattle.wat_tokens.specs.Tests.{more};
+ghost use Rattle.wat_print_instr.specs.Prelude.{printing_by, text_form};
+ghost use Rattle.wat_print_module.specs.Prelude.{paren, more, subsection_view, of_export, of_import, entries_in, paren_form, many_form, Printed, entries_form, are_cut};
+ghost use Rattle.wat_links.specs.Dylink.{Dylink0SubsectionModel, dylink_export_view, dylink_import_view, dylink_view};
+ghost use Rattle.wat_print_module.specs.Dylink.{sizes_form, names_form, dylink_form, is_filled, is_apart, export_form};
 ghost use Rattle.wat_links.specs.Cutting.{dylink};
-ghost use Rattle.wat_links.specs.Dylink.{SubsectionTy, dylink_export_view, dylink_import_view};
-ghost use Rattle.wat_links.specs.Dylink.{subsection_view, dylink_view};
-ghost use Rattle.wat_links.specs.Entries.{of_export, of_import, entries_in};
-ghost use Rattle.wat_print.specs.Form.{paren_form, many_form};
-ghost use Rattle.wat_print.specs.Printed.{printing_by};
-ghost use Rattle.wat_print.specs.Prints.{Printed};
-ghost use Rattle.wat_print.specs.Strings.{text_form};
-ghost use Rattle.wat_print_module.specs.Dylink.{sizes_form, names_form, entries_form, dylink_form};
-ghost use Rattle.wat_print_module.specs.Dylink.{is_filled, is_apart, are_cut, export_form};
 ghost use Rattle.wat_print_module.specs.Laws.Dylink.{dylink_prints};
 
 use crate::traits::PrintPart;
@@ -194,7 +187,7 @@ pub fn write_dylink(out: &mut Output, section: &Dylink0) -> Result<(), Refused>
 
 /// Printed with its parentheses, since an annotation follows a `(`.
 impl PrintPart for Dylink0<'_> {
-    ghost View = { List SubsectionTy };
+    ghost View = { List Dylink0SubsectionModel };
 
     ghost view = { dylink_view };
 

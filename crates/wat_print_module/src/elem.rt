@@ -1,17 +1,10 @@
 //! Printing of element segments and their elements.
 
 ghost use Rattle.std.specs.Prelude.{map, refl};
-ghost use Rattle.wat_tokens.specs.Index.{index_view};
-ghost use Rattle.wat_tokens.specs.Views.{option_view};
-ghost use Rattle.wat_expr.specs.Expression.{expression_view};
-ghost use Rattle.wat_fields.specs.Elem.{elem_kind_view, ElemTy, elem_view, elem};
+ghost use Rattle.wat_print_instr.specs.Prelude.{index_view, option_view, expression_view, any, option_form, printing_by, Printed, PrintedLines};
+ghost use Rattle.wat_fields.specs.Elem.{elem_kind_view, ElemModel, elem_view, elem};
 ghost use Rattle.wat_fields.specs.Payload.{payload_view};
-ghost use Rattle.wat_print.specs.Form.{any, option_form};
-ghost use Rattle.wat_print.specs.Printed.{printing_by};
-ghost use Rattle.wat_print.specs.Prints.{Printed, PrintedLines};
-ghost use Rattle.wat_print_module.specs.Elem.{elem_item_form, elem_items_form, elem_indices_form};
-ghost use Rattle.wat_print_module.specs.Elem.{payload_form, elem_table_form, elem_kind_form};
-ghost use Rattle.wat_print_module.specs.Elem.{elem_form};
+ghost use Rattle.wat_print_module.specs.Elem.{elem_item_form, elem_items_form, elem_indices_form, payload_form, elem_table_form, elem_kind_form, elem_form};
 ghost use Rattle.wat_print_module.specs.Laws.Elem.{elem_prints};
 
 use crate::data::write_offset;
@@ -119,7 +112,7 @@ pub fn write_elem(out: &mut Output, elem: &Elem) -> Result<(), Refused>
 }
 
 impl PrintPart for Elem<'_> {
-    ghost View = { ElemTy };
+    ghost View = { ElemModel };
 
     ghost view = { elem_view };
 

@@ -1,33 +1,17 @@
 //! Printing of exports and their types.
 
-ghost use Rattle.std.specs.Prelude.{◌≡◌, refl};
-ghost use Rattle.wat_links.specs.Export.{export_kind, ExportTy, export_view, export_, ExportTypeTy};
-ghost use Rattle.wat_links.specs.Export.{export_type_view, export_type};
-ghost use Rattle.wat_print.specs.Printed.{printing_by};
-ghost use Rattle.wat_print.specs.Prints.{Printed};
-ghost use Rattle.wat_print_module.specs.Export.{export_kind_word, export_form, export_type_form};
-ghost use Rattle.wat_print_module.specs.Export.{export_kind_form};
-ghost use Rattle.wat_print_module.specs.Laws.Export.{export_kind_prints, export_prints};
-ghost use Rattle.wat_print_module.specs.Laws.Export.{export_type_prints};
+ghost use Rattle.std.specs.Prelude.{refl};
+ghost use Rattle.wat_print_instr.specs.Prelude.{printing_by, Printed};
+ghost use Rattle.wat_links.specs.Export.{export_kind, ExportModel, export_view, export_, ExportTypeModel, export_type, export_type_view};
+ghost use Rattle.wat_print_module.specs.Export.{export_form, export_type_form, export_kind_form};
+ghost use Rattle.wat_print_module.specs.Laws.Export.{export_kind_prints, export_prints, export_type_prints};
 
 use crate::item::write_sig_group;
 use crate::traits::PrintPart;
 use wat_links::{Export, ExportKind, ExportType};
 use wat_print::reference::write_index;
 use wat_print::{Output, Refused};
-
-/// The word of a kind.
-fn word_of(kind: ExportKind) -> &'static str
-    ensures { result.now ≡ export_kind_word kind }
-{
-    match kind {
-        ExportKind::Func => "func",
-        ExportKind::Table => "table",
-        ExportKind::Memory => "memory",
-        ExportKind::Global => "global",
-        ExportKind::Tag => "tag",
-    }
-}
+use wat_tokens::words::NamedByKeyword;
 
 /// Writes an export, without its parentheses (Text Format, Modules, "Exports").
 #[tactic(auto, using(wat_print::specs::Laws::Written::put_both))]
@@ -37,7 +21,7 @@ pub fn write_export(out: &mut Output, export: &Export) -> Result<(), Refused>
     out.word("export")?;
     out.text(export.name)?;
     out.open()?;
-    out.word(word_of(export.kind))?;
+    out.word(export.kind.word())?;
     write_index(out, &export.item)?;
     out.close()
 }
@@ -66,12 +50,12 @@ impl PrintPart for ExportKind {
 
     #[tactic(auto, using(wat_print::specs::Laws::Written::puts_put))]
     fn write(&self, out: &mut Output) -> Result<(), Refused> {
-        out.word(word_of(*self))
+        out.word(self.word())
     }
 }
 
 impl PrintPart for Export<'_> {
-    ghost View = { ExportTy };
+    ghost View = { ExportModel };
 
     ghost view = { export_view };
 
@@ -86,7 +70,7 @@ impl PrintPart for Export<'_> {
 }
 
 impl PrintPart for ExportType<'_> {
-    ghost View = { ExportTypeTy };
+    ghost View = { ExportTypeModel };
 
     ghost view = { export_type_view };
 

@@ -1,11 +1,8 @@
 //! Printing of expressions.
 
 ghost use Rattle.std.specs.Prelude.{refl};
-ghost use Rattle.wat_expr.specs.Expression.{Expr, expression_view};
-ghost use Rattle.wat_expr.specs.ExpressionProduction.{expression};
+ghost use Rattle.wat_print_module.specs.Prelude.{ExpressionModel, expression_view, expression, expression_form, expression_prints};
 ghost use Rattle.wat_print.specs.Printed.{printing_by};
-ghost use Rattle.wat_print_module.specs.Expression.{expression_form};
-ghost use Rattle.wat_print_module.specs.Laws.Expression.{expression_prints};
 
 use crate::traits::PrintPart;
 use wat_expr::Expression;
@@ -13,7 +10,7 @@ use wat_print::{Output, Refused};
 use wat_print_instr::expression::write_expression;
 
 impl PrintPart for Expression<'_> {
-    ghost View = { Expr };
+    ghost View = { ExpressionModel };
 
     ghost view = { expression_view };
 

@@ -1,12 +1,9 @@
 //! Printing of the fields of a module.
 
 ghost use Rattle.std.specs.Prelude.{refl};
-ghost use Rattle.wat_tokens.specs.Index.{index_view};
-ghost use Rattle.wat_core.specs.Field.{ModuleFieldTy, field_view};
-ghost use Rattle.wat_core.specs.FieldGroup.{field_group};
-ghost use Rattle.wat_print.specs.Printed.{printing_by};
-ghost use Rattle.wat_print.specs.Prints.{Printed, PrintedLines};
-ghost use Rattle.wat_print_module.specs.Field.{start_form, content_form, field_form};
+ghost use Rattle.wat_print_instr.specs.Prelude.{index_view, printing_by, PrintedLines};
+ghost use Rattle.wat_print_module.specs.Prelude.{ModuleFieldModel, field_view, field_group, Printed, field_form};
+ghost use Rattle.wat_print_module.specs.Field.{start_form, content_form};
 ghost use Rattle.wat_print_module.specs.Laws.Field.{field_prints};
 
 use crate::custom::write_custom;
@@ -72,7 +69,7 @@ pub fn write_field(out: &mut Output, field: &ModuleField) -> Result<(), Refused>
 
 /// Printed with its parentheses, since an annotation follows a `(`.
 impl PrintPart for ModuleField<'_> {
-    ghost View = { ModuleFieldTy };
+    ghost View = { ModuleFieldModel };
 
     ghost view = { field_view };
 

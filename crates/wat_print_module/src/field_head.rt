@@ -1,17 +1,15 @@
 //! Printing of inline exports and imports, and of the beginning of a field.
 
 ghost use Rattle.std.specs.Prelude.{◌≡◌, ℕ, List, IfErr, refl};
-ghost use Rattle.wat_types.specs.Label.{label_view};
-ghost use Rattle.wat_links.specs.Export.{inline_export_view, inline_export};
-ghost use Rattle.wat_links.specs.FieldHead.{FieldHeadTy, field_head, head_view, head};
-ghost use Rattle.wat_links.specs.Import.{inline_import_view, inline_import};
-ghost use Rattle.wat_print.specs.Printed.{printing_by};
-ghost use Rattle.wat_print.specs.Prints.{Printed};
-ghost use Rattle.wat_print.specs.declared.fault.Refused.TheVariants.{Memory};
+ghost use Rattle.wat_core.specs.Prelude.{inline_export, FieldHeadModel, field_head, head, inline_import};
+ghost use Rattle.wat_print_instr.specs.Prelude.{printing_by, Memory};
+ghost use Rattle.wat_print_module.specs.Prelude.{Printed, head_form, head_prints, inline_import_prints};
+ghost use Rattle.wat_links.specs.Export.{inline_export_view};
+ghost use Rattle.wat_links.specs.FieldHead.{head_view};
+ghost use Rattle.wat_links.specs.Import.{inline_import_view};
 ghost use Rattle.wat_print_module.specs.FieldHead.{inline_export_form, inline_import_form};
-ghost use Rattle.wat_print_module.specs.FieldHead.{head_form};
-ghost use Rattle.wat_print_module.specs.Laws.FieldHead.{head_prints, inline_export_prints};
-ghost use Rattle.wat_print_module.specs.Laws.FieldHead.{inline_import_prints};
+ghost use Rattle.wat_print_module.specs.Laws.FieldHead.{inline_export_prints};
+ghost use Rattle.wat_types.specs.Label.{label_view};
 
 use crate::traits::PrintPart;
 use wat_links::{FieldHead, InlineExport, InlineImport};
@@ -98,7 +96,7 @@ impl PrintPart for InlineImport<'_> {
 }
 
 impl PrintPart for FieldHead<'_> {
-    ghost View = { FieldHeadTy };
+    ghost View = { FieldHeadModel };
 
     ghost view = { head_view };
 

@@ -1,10 +1,8 @@
 //! Printing of functions.
 
 ghost use Rattle.std.specs.Prelude.{refl};
-ghost use Rattle.wat_fields.specs.Func.{FuncFieldTy, func_use_view, func_kind_view, func_view};
-ghost use Rattle.wat_fields.specs.Func.{func};
-ghost use Rattle.wat_print.specs.Printed.{printing_by};
-ghost use Rattle.wat_print.specs.Prints.{PrintedLines};
+ghost use Rattle.wat_print_instr.specs.Prelude.{printing_by, PrintedLines};
+ghost use Rattle.wat_fields.specs.Func.{FuncModel, func_use_view, func_kind_view, func_view, func};
 ghost use Rattle.wat_print_module.specs.Func.{defined_func_form, func_form};
 ghost use Rattle.wat_print_module.specs.Laws.Func.{func_prints};
 
@@ -53,7 +51,7 @@ pub fn write_func(out: &mut Output, func: &Func) -> Result<(), Refused>
 }
 
 impl PrintPart for Func<'_> {
-    ghost View = { FuncFieldTy };
+    ghost View = { FuncModel };
 
     ghost view = { func_view };
 

@@ -1,10 +1,9 @@
 //! Printing of globals.
 
 ghost use Rattle.std.specs.Prelude.{refl};
+ghost use Rattle.wat_print_instr.specs.Prelude.{printing_by, PrintedLines};
 ghost use Rattle.wat_types.specs.Storage.{global_type_view};
-ghost use Rattle.wat_fields.specs.Global.{GlobalFieldTy, global_kind_view, global_view, global};
-ghost use Rattle.wat_print.specs.Printed.{printing_by};
-ghost use Rattle.wat_print.specs.Prints.{PrintedLines};
+ghost use Rattle.wat_fields.specs.Global.{GlobalModel, global_kind_view, global_view, global};
 ghost use Rattle.wat_print_module.specs.Global.{defined_global_form, global_field_form};
 ghost use Rattle.wat_print_module.specs.Laws.Global.{global_field_prints};
 
@@ -46,7 +45,7 @@ pub fn write_global_field(out: &mut Output, global: &Global) -> Result<(), Refus
 }
 
 impl PrintPart for Global<'_> {
-    ghost View = { GlobalFieldTy };
+    ghost View = { GlobalModel };
 
     ghost view = { global_view };
 

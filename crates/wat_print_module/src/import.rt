@@ -1,15 +1,10 @@
 //! Printing of imports.
 
 ghost use Rattle.std.specs.Prelude.{◌≡◌, map, refl};
-ghost use Rattle.wat_links.specs.Forms.{imports};
-ghost use Rattle.wat_links.specs.Import.{typed_view, named_view, items_view, ImportsTy, module_of};
-ghost use Rattle.wat_links.specs.Import.{imports_view};
-ghost use Rattle.wat_links.specs.Item.{sig_view};
-ghost use Rattle.wat_print.specs.Form.{paren_form};
-ghost use Rattle.wat_print.specs.Printed.{printing_by};
-ghost use Rattle.wat_print.specs.Prints.{Printed};
-ghost use Rattle.wat_print_module.specs.Import.{typed_items_form, named_items_form, shared_form};
-ghost use Rattle.wat_print_module.specs.Import.{items_form, imports_form};
+ghost use Rattle.wat_core.specs.Prelude.{imports, sig_view};
+ghost use Rattle.wat_print_instr.specs.Prelude.{paren_form, printing_by, Printed};
+ghost use Rattle.wat_links.specs.Import.{typed_view, named_view, items_view, ImportsModel, module_of, imports_view};
+ghost use Rattle.wat_print_module.specs.Import.{typed_items_form, named_items_form, shared_form, items_form, imports_form};
 ghost use Rattle.wat_print_module.specs.Laws.Import.{imports_prints};
 
 use crate::item::write_sig_group;
@@ -101,7 +96,7 @@ pub fn write_imports(out: &mut Output, imports: &Imports) -> Result<(), Refused>
 }
 
 impl PrintPart for Imports<'_> {
-    ghost View = { ImportsTy };
+    ghost View = { ImportsModel };
 
     ghost view = { imports_view };
 

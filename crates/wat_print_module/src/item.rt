@@ -1,14 +1,12 @@
 //! Printing of the signatures of imported and exported items.
 
 ghost use Rattle.std.specs.Prelude.{◌≡◌, refl};
+ghost use Rattle.wat_print_module.specs.Prelude.{paren_form, Printed, sig_prints};
+ghost use Rattle.wat_links.specs.Item.{item_sig, item_kind_view, ItemSigModel, sig_view};
 ghost use Rattle.wat_types.specs.Function.{function_view};
 ghost use Rattle.wat_types.specs.Use.{use_view};
-ghost use Rattle.wat_links.specs.Item.{item_kind_view, SigTy, sig_view, item_sig};
-ghost use Rattle.wat_print.specs.Form.{paren_form};
 ghost use Rattle.wat_print.specs.Printed.{printing_by};
-ghost use Rattle.wat_print.specs.Prints.{Printed};
 ghost use Rattle.wat_print_module.specs.Item.{exact_form, item_word, item_form, sig_form};
-ghost use Rattle.wat_print_module.specs.Laws.Item.{sig_prints};
 
 use crate::traits::PrintPart;
 use wat_links::{ItemKind, ItemSig};
@@ -87,7 +85,7 @@ pub fn write_sig_group(out: &mut Output, sig: &ItemSig) -> Result<(), Refused>
 }
 
 impl PrintPart for ItemSig<'_> {
-    ghost View = { SigTy };
+    ghost View = { ItemSigModel };
 
     ghost view = { sig_view };
 

@@ -1,16 +1,11 @@
 //! Printing of the locals of functions.
 
 ghost use Rattle.std.specs.Prelude.{◌≡◌, ◌||◌, List, refl};
-ghost use Rattle.wat_tokens.specs.Tests.{more};
-ghost use Rattle.wat_fields.specs.Local.{LocalTy, local_view, locals_view, local_parser_view};
-ghost use Rattle.wat_fields.specs.Local.{local_parser};
-ghost use Rattle.wat_print.specs.Form.{many_form};
-ghost use Rattle.wat_print.specs.Label.{none_labelled, at_most_one};
-ghost use Rattle.wat_print.specs.Printed.{printing_by};
-ghost use Rattle.wat_print.specs.Prints.{Printed};
-ghost use Rattle.wat_print.specs.Reference.{val_form};
-ghost use Rattle.wat_print_module.specs.Local.{local_label, local_type, listed_local_form};
-ghost use Rattle.wat_print_module.specs.Local.{locals_form, local_parser_form};
+ghost use Rattle.wat_print_instr.specs.Prelude.{none_labelled, printing_by, val_form};
+ghost use Rattle.wat_print_module.specs.Prelude.{more, LocalModel, locals_view, many_form, Printed, local_label, listed_local_form, locals_form};
+ghost use Rattle.wat_print.specs.Label.{at_most_one};
+ghost use Rattle.wat_fields.specs.Local.{local_view, local_parser_view, local_parser};
+ghost use Rattle.wat_print_module.specs.Local.{local_type, local_parser_form};
 ghost use Rattle.wat_print_module.specs.Laws.Local.{local_parser_prints};
 
 use crate::traits::PrintPart;
@@ -81,7 +76,7 @@ fn may_stand_together(locals: &[Local]) -> bool
 /// Printed without its parentheses (Text Format, Modules, "Functions", Abbreviations). Printing
 /// fails with Label if there are several locals, and a local has an identifier or a name.
 impl PrintPart for LocalParser<'_> {
-    ghost View = { List LocalTy };
+    ghost View = { List LocalModel };
 
     ghost view = { local_parser_view };
 

@@ -1,9 +1,8 @@
 //! Printing of memories.
 
 ghost use Rattle.std.specs.Prelude.{refl};
-ghost use Rattle.wat_fields.specs.Memory.{memory_kind_view, MemoryTy, memory_view, memory};
-ghost use Rattle.wat_print.specs.Printed.{printing_by};
-ghost use Rattle.wat_print.specs.Prints.{Printed};
+ghost use Rattle.wat_print_instr.specs.Prelude.{printing_by, Printed};
+ghost use Rattle.wat_fields.specs.Memory.{memory_kind_view, MemoryModel, memory_view, memory};
 ghost use Rattle.wat_print_module.specs.Memory.{memory_kind_form, memory_field_form};
 ghost use Rattle.wat_print_module.specs.Laws.Memory.{memory_field_prints};
 
@@ -53,7 +52,7 @@ pub fn write_memory(out: &mut Output, memory: &Memory) -> Result<(), Refused>
 }
 
 impl PrintPart for Memory<'_> {
-    ghost View = { MemoryTy };
+    ghost View = { MemoryModel };
 
     ghost view = { memory_view };
 

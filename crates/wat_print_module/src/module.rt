@@ -1,21 +1,10 @@
 //! Printing of modules.
 
-ghost use Rattle.std.specs.Prelude.{◌≡◌, ◌≢◌, OnOk, IfOk, IfErr, true, map, string_bytes, Some};
-ghost use Rattle.std.specs.Prelude.{None, refl};
-ghost use Rattle.wat_tokens.specs.Groups.{paren};
-ghost use Rattle.wat_core.specs.Field.{field_view};
-ghost use Rattle.wat_core.specs.Module.{binary, ModuleTy, module_kind_view, module_view, module_};
-ghost use Rattle.wat_core.specs.Text.{SpellsModule};
-ghost use Rattle.wat_print.specs.Layout.{Writes};
-ghost use Rattle.wat_print.specs.Parts.{WroteLines};
-ghost use Rattle.wat_print.specs.Printed.{NoneSpells, printing_by};
-ghost use Rattle.wat_print.specs.Text.{printed_text};
-ghost use Rattle.wat_print.specs.declared.fault.Refused.TheVariants.{Memory};
-ghost use Rattle.wat_print.specs.declared.output.Layout.TheVariants.{Line};
-ghost use Rattle.wat_print_module.specs.Field.{field_form};
-ghost use Rattle.wat_print_module.specs.Module.{module_kind_form, module_form, spell_module_group};
-ghost use Rattle.wat_print_module.specs.Module.{UnprintablePart, UnprintableField, NonePart};
-ghost use Rattle.wat_print_module.specs.Module.{fields_of_kind};
+ghost use Rattle.std.specs.Prelude.{string_bytes, ◌≡◌, ◌≢◌, OnOk, IfOk, IfErr, true, map, Some, None, refl};
+ghost use Rattle.wat_print_instr.specs.Prelude.{printing_by, Memory};
+ghost use Rattle.wat_print_module.specs.Prelude.{paren, field_view, ModuleModel, module_view, module_, SpellsModule, Writes, WroteLines, NoneSpells, printed_text, Line, field_form, spell_module_group, UnprintableField};
+ghost use Rattle.wat_core.specs.Module.{binary, module_kind_view};
+ghost use Rattle.wat_print_module.specs.Module.{module_kind_form, module_form, UnprintablePart, NonePart, fields_of_kind};
 ghost use Rattle.wat_print_module.specs.Laws.Module.{module_prints};
 
 use crate::field::write_field;
@@ -167,7 +156,7 @@ pub fn print_module(alloc: Global, value: &Module, layout: Layout) -> Result<Str
 
 /// Printed without its parentheses, as it is parsed.
 impl PrintPart for VisibleModule<'_> {
-    ghost View = { ModuleTy };
+    ghost View = { ModuleModel };
 
     ghost view = { λ m. module_view m.0 };
 

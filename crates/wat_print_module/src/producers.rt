@@ -1,15 +1,10 @@
 //! Printing of the `producers` section.
 
 ghost use Rattle.std.specs.Prelude.{◌≡◌, List, map, refl};
-ghost use Rattle.wat_tokens.specs.Groups.{paren};
-ghost use Rattle.wat_tokens.specs.Tests.{more};
-ghost use Rattle.wat_links.specs.Producers.{names_view, producers_view, producers};
-ghost use Rattle.wat_print.specs.Form.{many_form, paren_form};
+ghost use Rattle.wat_print_module.specs.Prelude.{paren, more, names_view, many_form, paren_form, Printed};
+ghost use Rattle.wat_links.specs.Producers.{producers_view, producers};
+ghost use Rattle.wat_print_module.specs.Producers.{produced_form, ProducersModel, produced_view, field_form, fields_behind, are_in_turn, all_fields_form, producers_form};
 ghost use Rattle.wat_print.specs.Printed.{printing_by};
-ghost use Rattle.wat_print.specs.Prints.{Printed};
-ghost use Rattle.wat_print_module.specs.Producers.{ProducedTy, produced_view, produced_form};
-ghost use Rattle.wat_print_module.specs.Producers.{field_form, fields_behind, are_in_turn};
-ghost use Rattle.wat_print_module.specs.Producers.{all_fields_form, producers_form};
 ghost use Rattle.wat_print_module.specs.Laws.Producers.{producers_prints};
 
 use crate::traits::PrintPart;
@@ -102,7 +97,7 @@ pub fn write_producers(out: &mut Output, section: &Producers) -> Result<(), Refu
 
 /// Printed with its parentheses, since an annotation follows a `(`.
 impl PrintPart for Producers<'_> {
-    ghost View = { List ProducedTy };
+    ghost View = { List ProducersModel };
 
     ghost view = { producers_view };
 

@@ -1,12 +1,8 @@
 //! Printing of custom sections with any name.
 
 ghost use Rattle.std.specs.Prelude.{◌≡◌, IfErr, map, refl};
-ghost use Rattle.wat_tokens.specs.Groups.{paren};
-ghost use Rattle.wat_links.specs.Raw.{RawTy, raw_view, raw_custom};
-ghost use Rattle.wat_print.specs.Form.{paren_form};
-ghost use Rattle.wat_print.specs.Printed.{printing_by};
-ghost use Rattle.wat_print.specs.Prints.{Printed};
-ghost use Rattle.wat_print.specs.declared.fault.Refused.TheVariants.{Memory};
+ghost use Rattle.wat_print_instr.specs.Prelude.{paren, paren_form, printing_by, Printed, Memory};
+ghost use Rattle.wat_links.specs.Raw.{RawCustomSectionModel, raw_view, raw_custom};
 ghost use Rattle.wat_print_module.specs.Custom.{pieces_form, raw_form};
 ghost use Rattle.wat_print_module.specs.Laws.Custom.{raw_prints};
 
@@ -43,7 +39,7 @@ pub fn write_raw(out: &mut Output, section: &RawCustomSection) -> Result<(), Ref
 
 /// Printed with its parentheses, since an annotation follows a `(`.
 impl PrintPart for RawCustomSection<'_> {
-    ghost View = { RawTy };
+    ghost View = { RawCustomSectionModel };
 
     ghost view = { raw_view };
 

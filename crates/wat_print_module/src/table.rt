@@ -1,16 +1,10 @@
 //! Printing of tables.
 
 ghost use Rattle.std.specs.Prelude.{◌≡◌, ◌&&◌, codes, map, refl};
-ghost use Rattle.wat_tokens.specs.Views.{option_view, no_items};
-ghost use Rattle.wat_types.specs.Reference.{ref_view};
-ghost use Rattle.wat_expr.specs.Expression.{expression_view};
-ghost use Rattle.wat_fields.specs.Payload.{payload_view, exprs, is_funcref};
-ghost use Rattle.wat_fields.specs.Table.{inline, table_kind_view, TableFieldTy, table_view, table};
-ghost use Rattle.wat_print.specs.Form.{group_form};
-ghost use Rattle.wat_print.specs.Printed.{printing_by};
-ghost use Rattle.wat_print.specs.Prints.{PrintedLines};
-ghost use Rattle.wat_print_module.specs.Table.{same_ref, elements_form, initial_form};
-ghost use Rattle.wat_print_module.specs.Table.{table_kind_form, table_field_form};
+ghost use Rattle.wat_core.specs.Prelude.{option_view, no_items, ref_view, expression_view, payload_view, exprs, is_funcref, inline, table_kind_view, TableModel, table};
+ghost use Rattle.wat_print_instr.specs.Prelude.{group_form, printing_by, PrintedLines};
+ghost use Rattle.wat_fields.specs.Table.{table_view};
+ghost use Rattle.wat_print_module.specs.Table.{same_ref, elements_form, initial_form, table_kind_form, table_field_form};
 ghost use Rattle.wat_print_module.specs.Laws.Table.{table_field_prints};
 
 use crate::elem::{write_indices, write_items};
@@ -32,7 +26,7 @@ fn same_type(a: &RefType, b: &RefType) -> bool
 }
 
 /// Whether the type is `funcref`, and there is no expression.
-fn is_bare_funcref(ty: &RefType, list: &[Expression]) -> bool
+fn is_empty_funcref(ty: &RefType, list: &[Expression]) -> bool
     ensures { result ≡ is_funcref (ref_view ty.now) && no_items
         (map expression_view list.now) }
 {
@@ -57,7 +51,7 @@ fn write_elements(out: &mut Output, ty: &RefType, payload: &ElemPayload) -> Resu
             write_indices(out, list)
         }
         ElemPayload::Exprs { ty: own, exprs } => {
-            if !same_type(ty, own) || is_bare_funcref(ty, exprs) {
+            if !same_type(ty, own) || is_empty_funcref(ty, exprs) {
                 return Err(Refused::Table);
             }
             write_items(out, exprs)
@@ -159,7 +153,7 @@ pub fn write_table(out: &mut Output, table: &Table) -> Result<(), Refused>
 }
 
 impl PrintPart for Table<'_> {
-    ghost View = { TableFieldTy };
+    ghost View = { TableModel };
 
     ghost view = { table_view };
 

@@ -1,9 +1,8 @@
 //! Printing of tags.
 
 ghost use Rattle.std.specs.Prelude.{refl};
-ghost use Rattle.wat_fields.specs.Tag.{TagTy, tag_kind_view, tag_view, tag};
-ghost use Rattle.wat_print.specs.Printed.{printing_by};
-ghost use Rattle.wat_print.specs.Prints.{Printed};
+ghost use Rattle.wat_print_instr.specs.Prelude.{printing_by, Printed};
+ghost use Rattle.wat_fields.specs.Tag.{TagModel, tag_kind_view, tag_view, tag};
 ghost use Rattle.wat_print_module.specs.Tag.{tag_import_form, tag_form};
 ghost use Rattle.wat_print_module.specs.Laws.Tag.{tag_prints};
 
@@ -39,7 +38,7 @@ pub fn write_tag(out: &mut Output, tag: &Tag) -> Result<(), Refused>
 }
 
 impl PrintPart for Tag<'_> {
-    ghost View = { TagTy };
+    ghost View = { TagModel };
 
     ghost view = { tag_view };
 

@@ -1,10 +1,7 @@
 -- Diagnostics by the character that holds the offset.
-use Rattle.std.proofs.Common.{◌≡◌, ℕ, List, subst, Ok, Err}
-use Rattle.std.specs.Prelude.{IfOk, Option, Result}
-use Rattle.wat_tokens.specs.Error.{Fault}
-use Rattle.wat_report.specs.Diagnostic.{IsDiagnostic, IsPlaced}
-use Rattle.wat_report.specs.Front.{HasGroups}
-use Rattle.wat_report.specs.Places.{char_start}
+use Rattle.std.proofs.Common.{◌≡◌, ℕ, List, subst, Ok, Err, IfOk, Option, Result}
+use Rattle.wat_report.specs.Prelude.{Fault, IsDiagnostic, HasGroups, char_start}
+use Rattle.wat_report.specs.Diagnostic.{IsPlaced}
 use Rattle.wat_report.specs.declared.diagnostic.Diagnostic.{Diagnostic}
 use Rattle.wat_report.specs.declared.front.Groups.{Groups}
 

@@ -1,11 +1,7 @@
 -- Where a text may be cut.
-use Rattle.std.proofs.Common.{◌≡◌, ℕ, ◌+◌, ◌-◌, ◌<◌, ◌≤◌, zero, suc, List, length, get_or, refl, subst, sym, ap, ◌∙◌, arith}
-use Rattle.std.specs.Prelude.{Bool, true, false, min}
-use Rattle.std.specs.Str.{IsUtf8, IsCharBoundary}
-use Rattle.std.proofs.lemmas.Str.{IsCharBoundary-start, IsCharBoundary-after_ascii}
-use Rattle.std.proofs.lemmas.Bool.Decides.{nat_tests}
-use Rattle.std.proofs.lemmas.List.{get_or_past}
-use Rattle.wat_report.specs.Places.{begins_char, begins_line, char_start, last_up_to}
+use Rattle.std.proofs.Common.{◌≡◌, ℕ, ◌+◌, ◌-◌, ◌<◌, ◌≤◌, zero, suc, List, length, get_or, refl, subst, sym, ap, ◌∙◌, arith, Bool, true, false, min}
+use Rattle.std.proofs.lemmas.Str.{IsCharBoundary-start}
+use Rattle.wat_report.specs.Prelude.{IsUtf8, IsCharBoundary, IsCharBoundary-after_ascii, nat_tests, get_or_past, begins_char, begins_line, char_start, last_up_to}
 
 pub boundary_first : (text : List ℕ) (k : ℕ) → IsUtf8 text → k ≡ 0 → IsCharBoundary text k
 boundary_first text k u z = subst (IsCharBoundary text) (sym z) (IsCharBoundary-start text u)

@@ -1,17 +1,8 @@
 -- One step of the walk along a string's escapes.
-use Rattle.std.proofs.Common.{◌≡◌, ◌≢◌, ℕ, ◌+◌, ◌<◌, ◌≤◌, List, [], ◌∷◌, length, drop, get_or, refl, add-one, arith, drop-cons, get_or-drop, length-drop}
-use Rattle.std.specs.Prelude.{◌==◌, false, if◌then◌else◌}
-use Rattle.std.proofs.lemmas.Bool.Decides.{nat_tests}
-use Rattle.wat_report.specs.Escapes.{escapes_len, is_escape}
-
-front_one : (i : ℕ) (s : List ℕ) → i < length s → drop i s ≡ get_or s i 0 ∷ drop (i + 1) s
-front_one i s h = rw (add-one, drop-cons s i 0)
-
-front_two : (i : ℕ) (s : List ℕ) → i + 1 < length s → drop i s ≡ get_or s i 0 ∷ (get_or s (i + 1) 0 ∷ drop (i + 2) s)
-front_two i s h =
-    let a = front_one i s (omega arith) in
-    let b = front_one (i + 1) s h in
-    let e : i + 1 + 1 ≡ i + 2 = omega arith in cc
+use Rattle.std.proofs.Common.{◌≡◌, ◌≢◌, ℕ, ◌+◌, ◌<◌, ◌≤◌, List, [], ◌∷◌, length, drop, get_or, refl, arith, get_or-drop, length-drop, ◌==◌, if◌then◌else◌}
+use Rattle.wat_report.specs.Prelude.{escapes_len, ne_eqb}
+use Rattle.wat_report.specs.Escapes.{is_escape}
+use Rattle.wat_lexer.specs.Laws.Bytes.{at_front, at_front_two}
 
 behind_two : (b c : ℕ) (t : List ℕ) → escapes_len (b ∷ c ∷ t) ≡ (if b == 92 then (if is_escape c (get_or t 0 0) then escapes_len t + 2 else 0) else if b == 34 then 0 else escapes_len (c ∷ t) + 1)
 unfolding escapes_len
@@ -22,7 +13,7 @@ escape_step i s h =
     let e : i + 1 + 1 ≡ i + 2 = omega arith in
     let z : i + 2 + 0 ≡ i + 2 = omega arith in
     let third : get_or (drop (i + 2) s) 0 0 ≡ get_or s (i + 2) 0 = rw (get_or-drop (i + 2) s 0 0, z) refl in
-    rw (front_two i s h, front_one (i + 1) s h, e, ← third) (behind_two (get_or s i 0) (get_or s (i + 1) 0) (drop (i + 2) s))
+    rw (at_front_two i s h, at_front (i + 1) s h, e, ← third) (behind_two (get_or s i 0) (get_or s (i + 1) 0) (drop (i + 2) s))
 
 short : (t : List ℕ) → length t ≤ 1 → escapes_len t ≡ 0
 unfolding escapes_len
@@ -35,8 +26,5 @@ escape_none i s h = short (drop i s) (omega (arith, length-drop i s))
 
 pub ruleset steps = (escape_step, escape_none)
 
-differs : (a b : ℕ) → a ≢ b → a == b ≡ false
-differs a b h = grind (arith, nat_tests)
-
 pub plain_step : (i : ℕ) (s : List ℕ) → i + 1 < length s → get_or s i 0 ≢ 92 → get_or s i 0 ≢ 34 → escapes_len (drop i s) ≡ escapes_len (drop (i + 1) s) + 1
-plain_step i s h a b = rw (escape_step i s h, differs (get_or s i 0) 92 a, differs (get_or s i 0) 34 b) refl
+plain_step i s h a b = rw (escape_step i s h, ne_eqb (get_or s i 0) 92 a, ne_eqb (get_or s i 0) 34 b) refl

@@ -1,6 +1,5 @@
 -- Lines and members that are left out where there are no words.
-use Rattle.std.proofs.Common.{◌≡◌, ℕ, ◌<◌, List, [], ◌∷◌, ◌++◌, length, refl, sym, arith, append-nil}
-use Rattle.std.specs.Prelude.{codes}
+use Rattle.std.proofs.Common.{◌≡◌, ℕ, ◌<◌, List, [], ◌∷◌, ◌++◌, length, refl, sym, arith, append-nil, codes}
 use Rattle.wat_report.specs.Json.{json_member, json_words}
 use Rattle.wat_report.specs.Report.{labelled_line}
 

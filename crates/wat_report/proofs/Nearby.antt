@@ -1,7 +1,7 @@
 -- The line of the nearest words.
 use Rattle.std.proofs.Common.{◌≡◌, List, [], ◌∷◌, ◌++◌, ℕ, length, ap, arith, sym, append-nil}
 use Rattle.std.specs.List.{IsFirstAndRest}
-use Rattle.wat_report.specs.HintWords.{nearest_words, question_words}
+use Rattle.wat_report.specs.HintWords.{question_words, nearest_words}
 
 pub nearest_words_none : {A : Type 0} (spelling : A → List ℕ) (found : List A) (out : List ℕ) → length found ≡ 0 → out ≡ out ++ nearest_words spelling found
 unfolding nearest_words

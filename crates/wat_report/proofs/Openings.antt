@@ -1,8 +1,6 @@
 -- Where no group is opened.
-use Rattle.std.proofs.Common.{◌≡◌, ℕ, ◌+◌, ◌-◌, ◌≤◌, List, [], length, get_or, refl, arith}
-use Rattle.std.specs.Prelude.{Bool, true, false, ◌&&◌, nat_lt, ◌==◌, if◌then◌else◌}
-use Rattle.std.proofs.lemmas.Bool.Decides.{nat_tests}
-use Rattle.std.proofs.lemmas.List.{get_or_past}
+use Rattle.std.proofs.Common.{◌≡◌, ℕ, ◌+◌, ◌-◌, ◌≤◌, List, [], length, get_or, refl, arith, Bool, true, false, ◌&&◌, nat_lt, ◌==◌, if◌then◌else◌}
+use Rattle.wat_report.specs.Prelude.{get_or_past, le-ltb}
 use Rattle.wat_report.specs.Around.{past_word, opened_word}
 use Rattle.wat_report.specs.Found.{word_at}
 use Rattle.wat_report.specs.Hints.{is_head_word}
@@ -20,9 +18,6 @@ opened_past : (text : List ℕ) (k : ℕ) → length text ≤ k → opened_word 
 unfolding opened_word
 opened_past text k l = no_word (nat_lt 0 (k + 1)) (get_or text (k + 1 - 1) 0 == 40) (word_at text (k + 1)) (no_paren text k l)
 
-not_before : (k n : ℕ) → n ≤ k → nat_lt k n ≡ false
-not_before k n l = grind (arith, nat_tests)
-
 -- at the text's end no group is opened
 pub none_behind_text : (text : List ℕ) (k at : ℕ) → k ≡ past_word text at → length text ≤ k → nat_lt k (length text) ≡ is_head_word (opened_word text (past_word text at + 1))
-none_behind_text text k at e l = rw (← e, opened_past text k l) (not_before k (length text) l)
+none_behind_text text k at e l = rw (← e, opened_past text k l) (le-ltb k (length text) l)

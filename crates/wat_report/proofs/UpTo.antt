@@ -1,7 +1,6 @@
 -- One step of a count and of a search among the numbers up to one.
-use Rattle.std.proofs.Common.{◌≡◌, ℕ, ◌+◌, ◌-◌, ◌<◌, zero, suc, refl, add-one, arith, sub-one}
-use Rattle.std.specs.Prelude.{Bool, true, false, if◌then◌else◌}
-use Rattle.wat_report.specs.Places.{count_up_to, last_up_to}
+use Rattle.std.proofs.Common.{sub-one, ◌≡◌, ℕ, ◌+◌, ◌-◌, ◌<◌, zero, suc, refl, add-one, arith, Bool, true, false, if◌then◌else◌}
+use Rattle.wat_report.specs.Positions.{count_up_to, last_up_to}
 
 pub count_first : (test : ℕ → Bool) → test 0 ≡ true → 1 ≡ count_up_to test 0
 unfolding count_up_to

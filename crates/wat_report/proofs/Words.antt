@@ -1,14 +1,10 @@
 -- Words in a text.
-use Rattle.std.proofs.Common.{◌≡◌, ℕ, ◌+◌, ◌-◌, ◌<◌, ◌≤◌, zero, suc, List, [], ◌∷◌, length, take, drop, get_or, refl, arith, length-drop, get_or-drop, subst}
-use Rattle.std.specs.Prelude.{Bool, true, false, ◌&&◌, slice_range}
-use Rattle.std.specs.List.{prefix_len}
-use Rattle.std.specs.Str.{IsUtf8, IsCharBoundary}
-use Rattle.std.proofs.lemmas.Str.{IsCharBoundary-after_ascii}
+use Rattle.std.proofs.Common.{◌≡◌, ℕ, ◌+◌, ◌-◌, ◌<◌, ◌≤◌, zero, suc, List, [], ◌∷◌, length, take, drop, get_or, refl, arith, length-drop, get_or-drop, subst, Bool, true, false, ◌&&◌, slice_range}
 use Rattle.std.proofs.lemmas.List.Sums.{prefix_len_passes, prefix_len-le-length}
-use Rattle.std.proofs.lemmas.Bool.Decides.{nat_tests}
-use Rattle.wat_lexer.specs.Bytes.{is_idchar}
+use Rattle.wat_mnemonics.specs.Prelude.{prefix_len, IsUtf8, IsCharBoundary, IsCharBoundary-after_ascii, is_idchar}
 use Rattle.wat_lexer.specs.Scan.{all_idchars}
 use Rattle.wat_report.specs.Found.{word_end}
+use Rattle.wat_lexer.specs.Laws.Bytes.{idchar_ascii}
 
 and_left : (a b : Bool) → a && b ≡ true → a ≡ true
 and_left true b h = refl
@@ -35,9 +31,6 @@ plain_word text at end order within all stops =
     let place : at + (end - at) ≡ end = omega arith in
     let front : end - at ≡ prefix_len is_idchar (drop at text) = idchars_in_front (drop at text) (end - at) (omega arith) all (λ w. rw (get_or-drop at text (end - at) 0, place) (stops (omega arith))) in
     omega (arith, front)
-
-idchar_ascii : (b : ℕ) → is_idchar b ≡ true → b < 128
-idchar_ascii b h = grind (arith, nat_tests)
 
 behind_idchars : (text : List ℕ) (at n : ℕ) → n ≡ prefix_len is_idchar (drop at text) → IsUtf8 text → IsCharBoundary text at → IsCharBoundary text (at + n)
 behind_idchars text at zero e u boundary = let same : at ≡ at + 0 = omega arith in subst (IsCharBoundary text) same boundary

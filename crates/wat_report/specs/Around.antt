@@ -1,10 +1,8 @@
 -- Words and groups around an offset.
-use Rattle.std.specs.Prelude.{ℕ, ◌+◌, ◌-◌, ◌==◌, ◌&&◌, ◌||◌, Bool, List, [], nat_lt, drop}
-use Rattle.std.specs.Prelude.{slice_index, if◌then◌else◌}
-use Rattle.std.specs.List.{prefix_len}
-use Rattle.wat_lexer.specs.Bytes.{is_space}
+use Rattle.std.specs.Prelude.{ℕ, ◌+◌, ◌-◌, ◌==◌, ◌&&◌, ◌||◌, Bool, List, [], nat_lt, drop, slice_index, if◌then◌else◌}
+use Rattle.wat_mnemonics.specs.Prelude.{prefix_len, is_space}
 use Rattle.wat_report.specs.Found.{word_at, word_end}
-use Rattle.wat_report.specs.Places.{last_up_to}
+use Rattle.wat_report.specs.Positions.{last_up_to}
 
 -- a parenthesis is directly before the offset
 abbrev pub is_behind_paren : List ℕ → ℕ → Bool

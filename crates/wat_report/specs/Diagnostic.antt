@@ -1,11 +1,11 @@
 -- The diagnostic of a fault: the parts of its report.
 use Rattle.std.specs.Prelude.{◌≡◌, ℕ, List, [], ◌++◌, Option, if◌then◌else◌}
-use Rattle.wat_tokens.specs.Error.{Fault}
+use Rattle.wat_lexer.specs.declared.fault.Fault.{Fault}
 use Rattle.wat_report.specs.Found.{found_text, is_word_at, marked_len}
 use Rattle.wat_report.specs.Front.{HasGroups}
 use Rattle.wat_report.specs.HintWords.{hint_words}
 use Rattle.wat_report.specs.Hints.{hint_of}
-use Rattle.wat_report.specs.Places.{char_start, place_of_char}
+use Rattle.wat_report.specs.Positions.{char_start, position_of_char}
 use Rattle.wat_report.specs.Rules.{names_token, rule_text}
 use Rattle.wat_report.specs.Shown.{shown_line}
 use Rattle.wat_report.specs.declared.diagnostic.Diagnostic.{Diagnostic}
@@ -22,7 +22,7 @@ pub record IsPlaced (text : List ℕ) (groups : Option Groups) (at : ℕ) (f : F
     : Type 0 where
   pub offset : d.offset ≡ at
   pub marked : d.length ≡ marked_len text at
-  pub place : d.place ≡ place_of_char text at
+  pub place : d.place ≡ position_of_char text at
   pub fault : d.fault ≡ f
   pub message : d.message.items ≡ message_text text at f
   pub shown : d.shown.items ≡ shown_line text at

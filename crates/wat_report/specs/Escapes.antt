@@ -1,6 +1,5 @@
 -- Invalid escapes in a string.
-use Rattle.std.specs.Prelude.{ℕ, ◌+◌, ◌==◌, ◌&&◌, ◌||◌, Bool, List, [], ◌∷◌, drop}
-use Rattle.std.specs.Prelude.{slice_index, if◌then◌else◌}
+use Rattle.std.specs.Prelude.{ℕ, ◌+◌, ◌==◌, ◌&&◌, ◌||◌, Bool, List, [], ◌∷◌, drop, slice_index, if◌then◌else◌}
 use Rattle.wat_lexer.specs.Cut.{is_hex}
 
 -- t n r u " ' \

@@ -1,8 +1,6 @@
 -- The token at an offset, as a message names it.
-use Rattle.std.specs.Prelude.{ℕ, ◌+◌, ◌-◌, ◌==◌, ◌||◌, Bool, List, ◌++◌, length, codes, min}
-use Rattle.std.specs.Prelude.{nat_le, nat_lt, drop, slice_index, slice_range, if◌then◌else◌}
-use Rattle.std.specs.List.{prefix_len}
-use Rattle.wat_lexer.specs.Bytes.{between, is_idchar}
+use Rattle.std.specs.Prelude.{ℕ, ◌+◌, ◌-◌, ◌==◌, ◌||◌, Bool, List, ◌++◌, length, codes, min, nat_le, nat_lt, drop, slice_index, slice_range, if◌then◌else◌}
+use Rattle.wat_mnemonics.specs.Prelude.{prefix_len, between, is_idchar}
 
 -- a lower-case letter is at the offset
 abbrev pub is_word_at : List ℕ → ℕ → Bool

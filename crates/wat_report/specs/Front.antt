@@ -1,13 +1,10 @@
 -- The groups before an offset of a text.
-use Rattle.std.specs.Prelude.{ℕ, ◌+◌, ◌==◌, ◌&&◌, Bool, false, List, count_by, nat_lt, take, Option}
-use Rattle.std.specs.Prelude.{Some, None}
-use Rattle.std.specs.List.{prefix_len}
-use Rattle.wat_lexer.specs.Cut.{IsCut}
-use Rattle.wat_lexer.specs.Token.{Placed, Tok, is_close, is_open, tokens_of}
+use Rattle.std.specs.Prelude.{ℕ, ◌+◌, ◌==◌, ◌&&◌, Bool, false, List, count_by, nat_lt, take, Option, Some, None}
+use Rattle.wat_mnemonics.specs.Prelude.{prefix_len, IsCut, Placed, Token, is_close, is_open, tokens_of}
 use Rattle.wat_report.specs.declared.front.Groups.{Groups}
 
 -- the number of tokens `(`, and of tokens `)`
-unfoldable pub groups_in : List Tok → Groups
+unfoldable pub groups_in : List Token → Groups
 groups_in ts = record { begun = count_by is_open ts; ended = count_by is_close ts }
 
 -- the number of tokens that begin before the offset

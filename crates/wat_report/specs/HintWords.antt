@@ -1,22 +1,16 @@
 -- The words of a hint.
-use Rattle.std.specs.Prelude.{ℕ, List, [], ◌∷◌, ◌++◌, codes, decimal, flat_map, Option, Some}
-use Rattle.std.specs.Prelude.{None}
+use Rattle.std.specs.Prelude.{ℕ, List, [], ◌∷◌, ◌++◌, codes, decimal, flat_map, Option, Some, None}
 use Rattle.wat_mnemonics.specs.Ops.{op_word}
 use Rattle.wat_mnemonics.specs.declared.table.TheConstants.{OPS}
 use Rattle.wat_report.specs.Nearest.{nearest_among}
 use Rattle.wat_report.specs.Meant.{keyword_text}
 use Rattle.wat_report.specs.declared.front.Groups.{Groups}
 use Rattle.wat_report.specs.declared.hint.Hint.{Hint}
-use Rattle.wat_report.specs.declared.hint.Hint.TheVariants.{ByteOrderMark, SeqCst, ModuleGroup}
-use Rattle.wat_report.specs.declared.hint.Hint.TheVariants.{Nearest, OldWord, Semicolon}
-use Rattle.wat_report.specs.declared.hint.Hint.TheVariants.{SlashComment, Unclosed, OpenString}
-use Rattle.wat_report.specs.declared.hint.Hint.TheVariants.{Escapes, BehindModule, NoModule}
-use Rattle.wat_report.specs.declared.hint.Hint.TheVariants.{OtherQuote, Fraction, NearField}
-use Rattle.wat_report.specs.declared.hint.Hint.TheVariants.{NearType, BareName, WrongEscape}
+use Rattle.wat_report.specs.declared.hint.Hint.TheVariants.{ByteOrderMark, SeqCst, ModuleGroup, Nearest, OldWord, Semicolon, SlashComment, Unclosed, OpenString, Escapes, BehindModule, NoModule, OtherQuote, Fraction, NearField, NearType, WithoutDollar, WrongEscape}
 use Rattle.wat_report.specs.declared.meant.TheConstants.{FIELD_WORDS, TYPE_WORDS}
 use Rattle.wat_report.specs.Escapes.{escapes_end}
 use Rattle.wat_report.specs.Found.{word_at}
-use Rattle.wat_report.specs.Places.{place_of_offset}
+use Rattle.wat_report.specs.Positions.{position_of_offset}
 use Rattle.wat_report.specs.Hints.{new_word}
 
 -- the word of a value, between backquotes
@@ -54,8 +48,8 @@ unclosed_words None = []
 unclosed_words (Some g) = groups_words g
 
 -- the word with a `$` before it
-unfoldable pub bare_name_words : List ℕ → List ℕ
-bare_name_words word = codes "an identifier begins with `$`: `$" ++ (word ++ codes "`")
+unfoldable pub without_dollar_words : List ℕ → List ℕ
+without_dollar_words word = codes "an identifier begins with `$`: `$" ++ (word ++ codes "`")
 
 -- the column of an invalid escape
 unfoldable pub wrong_escape_words : ℕ → List ℕ
@@ -94,7 +88,7 @@ hint_words text groups at (Some NearField) =
     nearest_words keyword_text (nearest_among keyword_text (word_at text at) FIELD_WORDS)
 hint_words text groups at (Some NearType) =
     nearest_words keyword_text (nearest_among keyword_text (word_at text at) TYPE_WORDS)
-hint_words text groups at (Some BareName) = bare_name_words (word_at text at)
+hint_words text groups at (Some WithoutDollar) = without_dollar_words (word_at text at)
 hint_words text groups at (Some WrongEscape) =
-    wrong_escape_words (place_of_offset text (escapes_end text at)).column
+    wrong_escape_words (position_of_offset text (escapes_end text at)).column
 hint_words text groups at (Some hint) = same_words hint

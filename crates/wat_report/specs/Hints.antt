@@ -1,26 +1,17 @@
 -- Hints: how an error may be mended.
-use Rattle.std.specs.Prelude.{ℕ, ◌+◌, ◌-◌, ◌==◌, ◌&&◌, ◌||◌, Bool, List, codes, count_by, length}
-use Rattle.std.specs.Prelude.{nat_le, nat_lt, take, slice_index, slice_range, Option, Some, None}
-use Rattle.std.specs.Prelude.{is_some, if◌then◌else◌}
-use Rattle.std.specs.List.{list_any}
+use Rattle.std.specs.Prelude.{ℕ, ◌+◌, ◌-◌, ◌==◌, ◌&&◌, ◌||◌, Bool, List, codes, count_by, length, nat_le, nat_lt, take, slice_index, slice_range, Option, Some, None, is_some, if◌then◌else◌}
 use Rattle.std.specs.Option.{option_or}
-use Rattle.std.specs.Str.{bytes_eq}
-use Rattle.wat_tokens.specs.Error.{Fault, LexChar, LexString, Unexpected, Operator}
-use Rattle.wat_lexer.specs.Bytes.{between}
+use Rattle.wat_mnemonics.specs.Prelude.{list_any, bytes_eq, Fault, between}
+use Rattle.wat_tokens.specs.Error.{LexChar, LexString, Unexpected, Operator}
 use Rattle.wat_report.specs.Around.{past_word, list_start, opened_word}
 use Rattle.wat_report.specs.Escapes.{escapes_end}
 use Rattle.wat_report.specs.Found.{is_word_at, word_at, word_end}
 use Rattle.wat_report.specs.Front.{is_before_groups, is_behind_group, is_in_group, is_in_two}
 use Rattle.wat_report.specs.Meant.{keyword_text}
-use Rattle.wat_report.specs.Places.{line_stop}
+use Rattle.wat_report.specs.Positions.{line_stop}
 use Rattle.wat_report.specs.declared.front.Groups.{Groups}
 use Rattle.wat_report.specs.declared.hint.Hint.{Hint}
-use Rattle.wat_report.specs.declared.hint.Hint.TheVariants.{ByteOrderMark, SeqCst, ModuleGroup}
-use Rattle.wat_report.specs.declared.hint.Hint.TheVariants.{Nearest, OldWord, Semicolon}
-use Rattle.wat_report.specs.declared.hint.Hint.TheVariants.{SlashComment, Unclosed, OpenString}
-use Rattle.wat_report.specs.declared.hint.Hint.TheVariants.{Escapes, BehindModule, NoModule}
-use Rattle.wat_report.specs.declared.hint.Hint.TheVariants.{OtherQuote, Fraction, NearField}
-use Rattle.wat_report.specs.declared.hint.Hint.TheVariants.{NearType, BareName, WrongEscape}
+use Rattle.wat_report.specs.declared.hint.Hint.TheVariants.{ByteOrderMark, SeqCst, ModuleGroup, Nearest, OldWord, Semicolon, SlashComment, Unclosed, OpenString, Escapes, BehindModule, NoModule, OtherQuote, Fraction, NearField, NearType, WithoutDollar, WrongEscape}
 use Rattle.wat_report.specs.declared.meant.TheConstants.{FIELD_WORDS}
 
 -- the text begins with a byte order mark: the character U+FEFF
@@ -155,8 +146,8 @@ is_head_word word =
 
 -- A word of at most 64 bytes is at the offset, between `(func` and a group that comes before the
 -- instructions of a function.
-unfoldable pub is_bare_name : List ℕ → ℕ → Bool
-is_bare_name text at =
+unfoldable pub is_without_dollar : List ℕ → ℕ → Bool
+is_without_dollar text at =
     is_word_at text at
     && (bytes_eq (opened_word text (list_start text at)) (codes "func")
     && ((past_word text (list_start text at) == at)
@@ -182,7 +173,7 @@ unexpected_hint text groups at =
 unfoldable pub operator_hint : List ℕ → ℕ → Option Hint
 operator_hint text at =
     if is_other_quote text at then Some OtherQuote
-    else if is_bare_name text at then Some BareName
+    else if is_without_dollar text at then Some WithoutDollar
     else if is_word_at text at then Some Nearest
     else None
 

@@ -1,6 +1,5 @@
 -- Diagnostics as JSON (RFC 8259).
-use Rattle.std.specs.Prelude.{ℕ, ◌==◌, List, [], ◌∷◌, ◌++◌, codes, decimal, flat_map, nat_lt}
-use Rattle.std.specs.Prelude.{if◌then◌else◌}
+use Rattle.std.specs.Prelude.{ℕ, ◌==◌, List, [], ◌∷◌, ◌++◌, codes, decimal, flat_map, nat_lt, if◌then◌else◌}
 use Rattle.wat_lexer.specs.Faults.{fault_name}
 use Rattle.wat_report.specs.WrongBytes.{hex_text}
 use Rattle.wat_report.specs.declared.diagnostic.Diagnostic.{Diagnostic}

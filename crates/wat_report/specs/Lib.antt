@@ -1,5 +1,5 @@
 pub use Rattle.wat_tokens.specs.Error
-pub use Rattle.wat_tokens.specs.Place
+pub use Rattle.wat_tokens.specs.Offset
 pub mod Around
 pub mod Diagnostic
 pub mod Edits
@@ -12,8 +12,9 @@ pub mod Json
 pub mod JsonStrings
 pub mod Meant
 pub mod Nearest
-pub mod Places
+pub mod Positions
 pub mod Report
 pub mod Rules
 pub mod Shown
 pub mod WrongBytes
+pub mod Prelude

@@ -1,14 +1,7 @@
 -- The words of fields and types, for hints.
 use Rattle.std.specs.Prelude.{ℕ, List, codes}
 use Rattle.wat_report.specs.declared.meant.Keyword.{Keyword}
-use Rattle.wat_report.specs.declared.meant.Keyword.TheVariants.{TypeField, Rec, Import, Func, Table}
-use Rattle.wat_report.specs.declared.meant.Keyword.TheVariants.{Memory, Global, Export, Start}
-use Rattle.wat_report.specs.declared.meant.Keyword.TheVariants.{Elem, Data, Tag, I32, I64, F32}
-use Rattle.wat_report.specs.declared.meant.Keyword.TheVariants.{F64, V128, FuncRef, ExternRef}
-use Rattle.wat_report.specs.declared.meant.Keyword.TheVariants.{ExnRef, ContRef, AnyRef, EqRef}
-use Rattle.wat_report.specs.declared.meant.Keyword.TheVariants.{StructRef, ArrayRef, I31Ref}
-use Rattle.wat_report.specs.declared.meant.Keyword.TheVariants.{NullFuncRef, NullExternRef}
-use Rattle.wat_report.specs.declared.meant.Keyword.TheVariants.{NullExnRef, NullContRef, NullRef}
+use Rattle.wat_report.specs.declared.meant.Keyword.TheVariants.{TypeField, Rec, Import, Func, Table, Memory, Global, Export, Start, Elem, Data, Tag, I32, I64, F32, F64, V128, FuncRef, ExternRef, ExnRef, ContRef, AnyRef, EqRef, StructRef, ArrayRef, I31Ref, NullFuncRef, NullExternRef, NullExnRef, NullContRef, NullRef}
 
 -- the word
 abbrev pub keyword_text : Keyword → List ℕ

@@ -1,6 +1,6 @@
 -- The report of a fault.
 use Rattle.std.specs.Prelude.{◌≡◌, ◌≢◌, ◌⊎◌, ℕ, List, [], ◌∷◌, ◌++◌, codes, decimal}
-use Rattle.wat_tokens.specs.Error.{Fault, Memory}
+use Rattle.wat_mnemonics.specs.Prelude.{Fault, Memory}
 use Rattle.wat_report.specs.Diagnostic.{IsDiagnostic}
 use Rattle.wat_report.specs.declared.diagnostic.Diagnostic.{Diagnostic}
 use Rattle.wat_report.specs.declared.lines.LineColumn.{LineColumn}
@@ -31,13 +31,13 @@ unfoldable pub report_text : List ℕ → Diagnostic → List ℕ
 report_text name d = first_line name d ++ further_lines d
 
 -- `NAME: error: ` and the message on a line
-abbrev pub bare_report : List ℕ → List ℕ
-bare_report name = name ++ codes ": error: memory ran out\n"
+abbrev pub memory_report : List ℕ → List ℕ
+memory_report name = name ++ codes ": error: memory ran out\n"
 
 -- The report of a fault at an offset, without a line `expected:`. Memory has no place.
 unfoldable pub IsReport : List ℕ → List ℕ → ℕ → Fault → List ℕ → Type 0
 IsReport name text offset f said =
-    ((f ≡ Memory) × (said ≡ bare_report name))
+    ((f ≡ Memory) × (said ≡ memory_report name))
     ⊎ ((f ≢ Memory) × ((d : Diagnostic) × IsDiagnostic text offset f d × (d.expected.items ≡ [])
     × (said ≡ report_text name d)))
 

@@ -1,9 +1,6 @@
 -- The message of each fault.
 use Rattle.std.specs.Prelude.{ℕ, Bool, true, false, List, codes, if◌then◌else◌}
-use Rattle.wat_tokens.specs.Error.{Fault, Memory, LexChar, LexString, LexComment, LexAnnotation}
-use Rattle.wat_tokens.specs.Error.{Unexpected, Range, Utf8, FloatLiteral, Alignment, PageSize}
-use Rattle.wat_tokens.specs.Error.{Operator, ParamAfterResult, IfWithoutThen, IfTooMany, HintValue}
-use Rattle.wat_tokens.specs.Error.{HintTwice, HintPlace, ImportMixed, ImportId, HintTarget}
+use Rattle.wat_tokens.specs.Error.{Fault, Memory, LexChar, LexString, LexComment, LexAnnotation, Unexpected, Range, Utf8, FloatLiteral, Alignment, PageSize, Operator, ParamAfterResult, IfWithoutThen, IfTooMany, HintValue, HintTwice, HintPlace, ImportMixed, ImportId, HintTarget}
 
 -- the message ends with the token that was found
 abbrev pub names_token : Fault → Bool

@@ -1,8 +1,7 @@
 -- The line of the text in a report, and the caret below it.
-use Rattle.std.specs.Prelude.{ℕ, ◌+◌, ◌-◌, ◌==◌, Bool, List, [], ◌++◌, map, min, codes, nat_lt}
-use Rattle.std.specs.Prelude.{drop, length, slice_range, true, if◌then◌else◌}
+use Rattle.std.specs.Prelude.{ℕ, ◌+◌, ◌-◌, ◌==◌, Bool, List, [], ◌++◌, map, min, codes, nat_lt, drop, length, slice_range, true, if◌then◌else◌}
 use Rattle.std.specs.Str.{chars}
-use Rattle.wat_report.specs.Places.{char_start, line_start, line_stop}
+use Rattle.wat_report.specs.Positions.{char_start, line_start, line_stop}
 
 -- the padding below a character: a tab below a tab, else a space
 abbrev pub padding : ℕ → ℕ

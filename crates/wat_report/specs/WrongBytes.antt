@@ -1,10 +1,8 @@
 -- The diagnostic of bytes that aren't UTF-8.
-use Rattle.std.specs.Prelude.{◌≡◌, ℕ, ◌/◌, ◌%◌, ◌==◌, ◌&&◌, ◌||◌, Bool, List, [], ◌∷◌, ◌++◌}
-use Rattle.std.specs.Prelude.{codes, length, slice_index, take, if◌then◌else◌}
-use Rattle.std.specs.Char.{digit_char}
-use Rattle.std.specs.Str.{IsValidUpTo}
+use Rattle.std.specs.Prelude.{◌≡◌, ℕ, ◌/◌, ◌%◌, ◌==◌, ◌&&◌, ◌||◌, Bool, List, [], ◌∷◌, ◌++◌, codes, length, slice_index, take, if◌then◌else◌}
+use Rattle.wat_mnemonics.specs.Prelude.{digit_char, IsValidUpTo}
 use Rattle.wat_tokens.specs.Error.{Utf8}
-use Rattle.wat_report.specs.Places.{line_start, place_of_char}
+use Rattle.wat_report.specs.Positions.{line_start, position_of_char}
 use Rattle.wat_report.specs.Shown.{open_line}
 use Rattle.wat_report.specs.declared.diagnostic.Diagnostic.{Diagnostic}
 
@@ -33,7 +31,7 @@ last_line front = open_line front (line_start front (length front))
 pub record IsWrongByte (bytes front : List ℕ) (byte : ℕ) (d : Diagnostic) : Type 0 where
   pub offset : d.offset ≡ length front
   pub marked : d.length ≡ 1
-  pub place : d.place ≡ place_of_char front (length front)
+  pub place : d.place ≡ position_of_char front (length front)
   pub fault : d.fault ≡ Utf8
   pub message : d.message.items ≡ wrong_byte_text byte
   pub shown : d.shown.items ≡ last_line front

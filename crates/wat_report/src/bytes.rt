@@ -2,13 +2,11 @@
 
 ghost use Rattle.std.specs.Prelude.{◌≡◌, ◌++◌, IfOk, MatchResult, OnOk};
 ghost use Rattle.std.specs.Str.{IsValidUpTo};
-ghost use Rattle.wat_report.specs.WrongBytes.{IsFirstWrongByte, IsWrongByte};
-ghost use Rattle.wat_report.specs.WrongBytes.{begins_with_utf16_mark, hex_text, last_line};
-ghost use Rattle.wat_report.specs.WrongBytes.{utf16_words, wrong_byte_text};
+ghost use Rattle.wat_report.specs.WrongBytes.{IsFirstWrongByte, IsWrongByte, begins_with_utf16_mark, hex_text, last_line, utf16_words, wrong_byte_text};
 
 use crate::caret::add_open;
 use crate::diagnostic::Diagnostic;
-use crate::lines::{line_start, place_of_char};
+use crate::lines::{line_start, position_of_char};
 use crate::write::add;
 use std::alloc::{AllocError, Global};
 use wat_lexer::string::hex_digit;
@@ -69,7 +67,7 @@ fn wrong_byte(alloc: Global, bytes: &[u8], front: &str, byte: u8) -> Result<Diag
     Ok(Diagnostic {
         offset: front.len(),
         length: 1,
-        place: place_of_char(front, front.len()),
+        place: position_of_char(front, front.len()),
         fault: Fault::Utf8,
         message: message_of(alloc, byte)?,
         shown: shown_of(alloc, front)?,

@@ -1,10 +1,9 @@
 //! The line of the text in a report, and the caret below it.
 
 ghost use Rattle.std.specs.Prelude.{◌≡◌, ◌++◌, ◌≤◌, ◌<◌, ◌+◌, ◌-◌, OnOk, length, map, min};
-ghost use Rattle.std.specs.Str.{IsCharBoundary, chars};
-ghost use Rattle.wat_report.specs.Places.{line_start, line_stop};
-ghost use Rattle.wat_report.specs.Shown.{padding, caret_line, first_shown, last_shown};
-ghost use Rattle.wat_report.specs.Shown.{marked_line, open_line, shown_line, source_line};
+ghost use Rattle.std.specs.Str.{chars, IsCharBoundary};
+ghost use Rattle.wat_report.specs.Positions.{line_start, line_stop};
+ghost use Rattle.wat_report.specs.Shown.{padding, caret_line, first_shown, last_shown, marked_line, open_line, shown_line, source_line};
 
 use crate::lines::{char_start, line_start, line_stop};
 use crate::write::add;

@@ -1,10 +1,7 @@
 //! The parts of a report.
 
 ghost use Rattle.std.specs.Prelude.{◌≡◌, ◌≤◌, [], IfOk, length};
-ghost use Rattle.std.specs.Str.{IsCharBoundary};
-ghost use Rattle.wat_lexer.specs.Cut.{IsCut};
-ghost use Rattle.wat_lexer.specs.View.{placed};
-ghost use Rattle.wat_tokens.specs.Place.{offset_of};
+ghost use Rattle.wat_mnemonics.specs.Prelude.{IsCharBoundary, IsCut, placed, offset_of};
 ghost use Rattle.wat_report.specs.Diagnostic.{IsDiagnostic, IsPlaced, message_text};
 ghost use Rattle.wat_report.specs.HintWords.{hint_words};
 ghost use Rattle.wat_report.specs.Hints.{hint_of};
@@ -14,7 +11,7 @@ use crate::caret::add_line;
 use crate::found::{add_found, is_word_at, marked_len};
 use crate::front::{Groups, groups_before};
 use crate::hint_words::add_hint;
-use crate::lines::{LineColumn, char_start, place_of_char};
+use crate::lines::{LineColumn, char_start, position_of_char};
 use crate::rules::{names_token, rule};
 use crate::write::add;
 use bumpalo::Bump;
@@ -98,12 +95,12 @@ fn diagnostic_at(
     requires within { at ≤ length text.now }
     requires boundary { IsCharBoundary text.now at }
     ensures placed { IfOk result (λ d. IsPlaced text.now groups at fault d) }
-    ensures bare { IfOk result (λ d. d.expected.items ≡ []) }
+    ensures none_expected { IfOk result (λ d. d.expected.items ≡ []) }
 {
     Ok(Diagnostic {
         offset: at,
         length: marked_len(text, at),
-        place: place_of_char(text, at),
+        place: position_of_char(text, at),
         fault,
         message: message_of(alloc, text, at, fault)?,
         shown: shown_of(alloc, text, at)?,
@@ -122,7 +119,7 @@ pub fn diagnostic_in(
 ) -> Result<Diagnostic, AllocError>
     requires { IsCut text.now (placed tokens.now) }
     ensures found { IfOk result (λ d. IsDiagnostic text.now (offset_of error.span) error.fault d) }
-    ensures bare { IfOk result (λ d. d.expected.items ≡ []) }
+    ensures none_expected { IfOk result (λ d. d.expected.items ≡ []) }
 {
     let at = char_start(text, error.span.offset());
     let groups = groups_before(tokens, at);
@@ -135,7 +132,7 @@ pub fn diagnostic_in(
 /// text as that of the end. The error is AllocError if memory runs out.
 pub fn diagnostic_of(alloc: Global, text: &str, error: Error) -> Result<Diagnostic, AllocError>
     ensures found { IfOk result (λ d. IsDiagnostic text.now (offset_of error.span) error.fault d) }
-    ensures bare { IfOk result (λ d. d.expected.items ≡ []) }
+    ensures none_expected { IfOk result (λ d. d.expected.items ≡ []) }
 {
     let arena = Bump::new(alloc);
     match cut(alloc, text, &arena) {

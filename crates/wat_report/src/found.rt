@@ -2,8 +2,7 @@
 
 ghost use Rattle.std.specs.Prelude.{◌≡◌, ◌++◌, ◌≤◌, ◌<◌, OnOk, length};
 ghost use Rattle.std.specs.Str.{IsCharBoundary};
-ghost use Rattle.wat_report.specs.Found.{char_end, found_text, is_word_at, marked_len, word_at};
-ghost use Rattle.wat_report.specs.Found.{word_end, word_text};
+ghost use Rattle.wat_report.specs.Found.{char_end, found_text, is_word_at, marked_len, word_at, word_end, word_text};
 
 use crate::write::add;
 use std::alloc::AllocError;

@@ -1,10 +1,8 @@
 //! The groups before an offset of a text.
 
 ghost use Rattle.std.specs.Prelude.{◌≡◌, ◌≤◌, length, take};
-ghost use Rattle.wat_lexer.specs.Token.{is_close, is_open, tokens_of};
-ghost use Rattle.wat_lexer.specs.View.{placed};
-ghost use Rattle.wat_report.specs.Front.{count_before, groups_before, groups_in};
-ghost use Rattle.wat_report.specs.Front.{is_before_groups, is_behind_group, is_in_group, is_in_two};
+ghost use Rattle.wat_mnemonics.specs.Prelude.{tokens_of, placed};
+ghost use Rattle.wat_report.specs.Front.{count_before, groups_before, groups_in, is_before_groups, is_behind_group, is_in_group, is_in_two};
 
 use wat_lexer::tokens::Tokens;
 

@@ -4,14 +4,7 @@ ghost use Rattle.std.specs.Prelude.{◌≡◌, ◌≤◌, ◌+◌, length, optio
 ghost use Rattle.std.specs.Str.{IsCharBoundary};
 ghost use Rattle.wat_report.specs.Around.{past_word, opened_word};
 ghost use Rattle.wat_report.specs.Found.{word_at};
-ghost use Rattle.wat_report.specs.Hints.{begins_number, begins_with_mark, char_hint};
-ghost use Rattle.wat_report.specs.Hints.{count_in_line, count_of, has_no_group, has_wrong_escape};
-ghost use Rattle.wat_report.specs.Hints.{hint_of, is_bare_name, is_field_place, is_field_word};
-ghost use Rattle.wat_report.specs.Hints.{is_first_field, is_fraction, is_fraction_at, is_head_word};
-ghost use Rattle.wat_report.specs.Hints.{is_other_quote, is_semicolon, is_slash_comment};
-ghost use Rattle.wat_report.specs.Hints.{is_string_word, is_type_place, is_types_word, is_unclosed};
-ghost use Rattle.wat_report.specs.Hints.{new_word, operator_hint, string_hint, token_hint};
-ghost use Rattle.wat_report.specs.Hints.{unexpected_hint};
+ghost use Rattle.wat_report.specs.Hints.{begins_number, begins_with_mark, char_hint, count_in_line, count_of, has_no_group, has_wrong_escape, hint_of, is_without_dollar, is_field_place, is_field_word, is_first_field, is_fraction, is_fraction_at, is_head_word, is_other_quote, is_semicolon, is_slash_comment, is_string_word, is_type_place, is_types_word, is_unclosed, new_word, operator_hint, string_hint, token_hint, unexpected_hint};
 
 use crate::around::{list_start, opened_word, past_word};
 use crate::escapes::escapes_end;
@@ -60,7 +53,7 @@ pub(crate) enum Hint {
     /// An unknown word, which may be a misspelled type.
     NearType,
     /// A function's identifier is written without its `$`.
-    BareName,
+    WithoutDollar,
 }
 
 /// Returns whether the text begins with a byte order mark.
@@ -319,10 +312,10 @@ fn is_before_head(text: &str, at: usize) -> bool
 
 /// Returns whether a word is at the offset, between `(func` and a group that comes before the
 /// instructions of a function.
-#[tactic(auto, unfolding(crate::specs::Hints::is_bare_name))]
-fn is_bare_name(text: &str, at: usize) -> bool
+#[tactic(auto, unfolding(crate::specs::Hints::is_without_dollar))]
+fn is_without_dollar(text: &str, at: usize) -> bool
     requires { at ≤ length text.now }
-    ensures { result ≡ is_bare_name text.now at }
+    ensures { result ≡ is_without_dollar text.now at }
 {
     let start = list_start(text, at);
     is_word_at(text, at)
@@ -373,8 +366,8 @@ fn operator_hint(text: &str, at: usize) -> Option<Hint>
     if is_other_quote(text, at) {
         return Some(Hint::OtherQuote);
     }
-    if is_bare_name(text, at) {
-        return Some(Hint::BareName);
+    if is_without_dollar(text, at) {
+        return Some(Hint::WithoutDollar);
     }
     if is_word_at(text, at) {
         return Some(Hint::Nearest);

@@ -1,13 +1,10 @@
 //! The words of a hint.
 
 ghost use Rattle.std.specs.Prelude.{◌≡◌, ◌++◌, ◌≤◌, OnOk, flat_map, length};
-ghost use Rattle.std.specs.Str.{IsCharBoundary};
-ghost use Rattle.wat_mnemonics.specs.Ops.{op_word};
+ghost use Rattle.wat_mnemonics.specs.Prelude.{IsCharBoundary, op_word};
 ghost use Rattle.wat_mnemonics.specs.declared.table.TheConstants.{OPS};
-ghost use Rattle.wat_report.specs.HintWords.{bare_name_words, hint_words, in_backquotes, nearest_words};
-ghost use Rattle.wat_report.specs.HintWords.{today_words, next_quoted, question_words, same_words};
-ghost use Rattle.wat_report.specs.HintWords.{groups_words, unclosed_words, wrong_escape_words};
-ghost use Rattle.wat_report.specs.Places.{place_of_offset};
+ghost use Rattle.wat_report.specs.HintWords.{without_dollar_words, hint_words, in_backquotes, nearest_words, today_words, next_quoted, question_words, same_words, groups_words, unclosed_words, wrong_escape_words};
+ghost use Rattle.wat_report.specs.Positions.{position_of_offset};
 ghost use Rattle.wat_report.specs.Meant.{keyword_text};
 ghost use Rattle.wat_report.specs.Escapes.{escapes_end};
 ghost use Rattle.wat_report.specs.Hints.{hint_of, new_word};
@@ -139,9 +136,9 @@ fn add_unclosed(out: &mut Vec<u8>, groups: Option<Groups>) -> Result<(), AllocEr
 }
 
 /// Adds the hint for an identifier without its `$`.
-#[tactic(auto, unfolding(crate::specs::HintWords::bare_name_words))]
-fn add_bare_name(out: &mut Vec<u8>, word: &str) -> Result<(), AllocError>
-    ensures { OnOk result (out.new.items ≡ out.old.items ++ bare_name_words word.now) }
+#[tactic(auto, unfolding(crate::specs::HintWords::without_dollar_words))]
+fn add_without_dollar(out: &mut Vec<u8>, word: &str) -> Result<(), AllocError>
+    ensures { OnOk result (out.new.items ≡ out.old.items ++ without_dollar_words word.now) }
 {
     add(out, "an identifier begins with `$`: `$")?;
     add(out, word)?;
@@ -165,7 +162,7 @@ fn add_column(out: &mut Vec<u8>, column: usize) -> Result<(), AllocError>
 fn add_wrong_escape(out: &mut Vec<u8>, text: &str, at: usize) -> Result<(), AllocError>
     requires { at ≤ length text.now }
     ensures { OnOk result (out.new.items ≡ out.old.items ++ wrong_escape_words
-        ((place_of_offset text.now (escapes_end text.now at)).column)) }
+        ((position_of_offset text.now (escapes_end text.now at)).column)) }
 {
     add_column(out, line_column(text, escapes_end(text, at)).column)
 }
@@ -216,7 +213,7 @@ pub(crate) fn add_hint(
         Some(Hint::Nearest) => add_near_mnemonics(out, word_at(text, at)),
         Some(Hint::NearField) => add_near_fields(out, word_at(text, at)),
         Some(Hint::NearType) => add_near_types(out, word_at(text, at)),
-        Some(Hint::BareName) => add_bare_name(out, word_at(text, at)),
+        Some(Hint::WithoutDollar) => add_without_dollar(out, word_at(text, at)),
         Some(Hint::WrongEscape) => add_wrong_escape(out, text, at),
         Some(hint) => add(out, same_words(hint)),
     }

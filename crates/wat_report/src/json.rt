@@ -1,9 +1,7 @@
 //! Diagnostics as JSON (RFC 8259).
 
 ghost use Rattle.std.specs.Prelude.{◌≡◌, ◌++◌, OnOk, flat_map};
-ghost use Rattle.wat_report.specs.Json.{json_escape, json_fault, json_head, json_member};
-ghost use Rattle.wat_report.specs.Json.{json_notes, json_number, json_place, json_string};
-ghost use Rattle.wat_report.specs.Json.{json_text, json_words};
+ghost use Rattle.wat_report.specs.Json.{json_escape, json_fault, json_head, json_member, json_notes, json_number, json_place, json_string, json_text, json_words};
 
 use crate::bytes::add_hex;
 use crate::diagnostic::Diagnostic;

@@ -2,9 +2,7 @@
 
 ghost use Rattle.std.specs.Prelude.{◌≡◌, ◌≤◌, length};
 ghost use Rattle.std.specs.Str.{IsCharBoundary};
-ghost use Rattle.wat_report.specs.Places.{begins_char, begins_line, count_up_to, char_start};
-ghost use Rattle.wat_report.specs.Places.{line_start, line_of_offset, line_stop};
-ghost use Rattle.wat_report.specs.Places.{place_of_char, place_of_offset};
+ghost use Rattle.wat_report.specs.Positions.{begins_char, begins_line, count_up_to, char_start, line_start, line_of_offset, line_stop, position_of_char, position_of_offset};
 
 /// A position in a text: line and column, as editors count them.
 #[derive(Clone, Copy, Debug, PartialEq, Eq, Hash)]
@@ -99,10 +97,10 @@ pub(crate) fn line_stop(text: &str, start: usize) -> usize
 }
 
 /// Returns the line and the column of the character that begins at the offset.
-pub(crate) fn place_of_char(text: &str, at: usize) -> LineColumn
+pub(crate) fn position_of_char(text: &str, at: usize) -> LineColumn
     requires within { at ≤ length text.now }
     requires boundary { IsCharBoundary text.now at }
-    ensures { result ≡ place_of_char text.now at }
+    ensures { result ≡ position_of_char text.now at }
 {
     let start = line_start(text, at);
     let line = line_number(text.as_bytes(), at);
@@ -115,9 +113,9 @@ pub(crate) fn place_of_char(text: &str, at: usize) -> LineColumn
 /// Both count from 1. The column counts characters. An offset inside a character has the position of
 /// the character, and an offset after the end of the text that of the end. CR LF ends one line.
 pub fn line_column(text: &str, offset: usize) -> LineColumn
-    ensures { result ≡ place_of_offset text.now offset }
+    ensures { result ≡ position_of_offset text.now offset }
 {
-    place_of_char(text, char_start(text, offset))
+    position_of_char(text, char_start(text, offset))
 }
 
 /// Returns the line that contains an offset in bytes, without the LF, CR LF or CR that ends it.

@@ -1,9 +1,8 @@
 //! The report of a fault.
 
 ghost use Rattle.std.specs.Prelude.{◌≡◌, ◌++◌, OnOk};
-ghost use Rattle.wat_tokens.specs.Place.{offset_of};
-ghost use Rattle.wat_report.specs.Report.{AddsReport, first_line, further_lines, heading_text};
-ghost use Rattle.wat_report.specs.Report.{labelled_line, report_text};
+ghost use Rattle.wat_lexer.specs.Offset.{offset_of};
+ghost use Rattle.wat_report.specs.Report.{AddsReport, first_line, further_lines, heading_text, labelled_line, report_text};
 
 use crate::diagnostic::{Diagnostic, diagnostic_of};
 use crate::lines::LineColumn;

@@ -1,6 +1,5 @@
 -- Additions to an output.
-use Rattle.std.specs.Prelude.{◌≡◌, List, ℕ, ◌++◌, Result, Ok, Err, OnOk}
-use Rattle.std.proofs.Common.{◌∙◌, ap, append_assoc}
+use Rattle.std.proofs.Common.{◌≡◌, List, ℕ, ◌++◌, Result, Ok, Err, OnOk, ◌∙◌, ap, append_assoc}
 
 -- two additions in sequence are one addition
 pub added_both : {X E : Type 0} (r : Result X E) (old mid new a b : List ℕ)

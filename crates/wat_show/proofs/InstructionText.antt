@@ -1,12 +1,10 @@
 -- The listing of an instruction.
-use Rattle.std.specs.Prelude.{◌≡◌, ◌++◌}
-use Rattle.std.proofs.Common.{ap}
-use Rattle.wat_mnemonics.specs.Ops.{op_word}
-use Rattle.wat_mnemonics.specs.declared.op.Op.{Op}
-use Rattle.wat_mnemonics.specs.Laws.Places.{there}
-use Rattle.wat_instr.specs.Instruction.{Instruction, instr_of, op_in, operand_in, instruction_view}
-use Rattle.wat_instr.specs.Operand.{Operand}
-use Rattle.wat_show.specs.Expressions.{headed_text, instr_text, shown_operand}
+use Rattle.std.proofs.Common.{◌≡◌, ◌++◌, ap}
+use Rattle.wat_core.specs.Prelude.{Op, Operand}
+use Rattle.wat_show.specs.Prelude.{op_word, Instruction, op_in, operand_in, instruction_view, instr_text, shown_operand}
+use Rattle.wat_instr.specs.Instruction.{instr_of}
+use Rattle.wat_show.specs.Expressions.{headed_text}
+use Rattle.wat_mnemonics.specs.Laws.TableIndex.{there}
 
 -- the row of the instruction has the mnemonic
 pub instr_text_is : (h : Op) (o : Operand) → instr_text (instr_of h o) ≡ headed_text h o

@@ -1,19 +1,15 @@
 -- The hint for an index, and the lines of instructions.
-use Rattle.std.proofs.Common.{◌≡◌, ◌≢◌, ℕ, ◌+◌, ◌<◌, ◌≤◌, List, [], ◌∷◌, ◌++◌, length, get_or, set, take, refl, sym, ◌∙◌, ap, arith, append_assoc, append-nil, subst, length-set}
-use Rattle.std.specs.Prelude.{◌==◌, Bool, eqb, true, false, if◌then◌else◌, Option, Some, None, is_some, map, Result, Ok, Err, OnOk}
+use Rattle.std.proofs.Common.{set, length-set, eqb, ◌≡◌, ◌≢◌, ℕ, ◌+◌, ◌<◌, ◌≤◌, List, [], ◌∷◌, ◌++◌, length, get_or, take, refl, sym, ◌∙◌, ap, arith, append_assoc, append-nil, subst, ◌==◌, Bool, true, false, if◌then◌else◌, Option, Some, None, is_some, map, Result, Ok, Err, OnOk}
 use Rattle.std.proofs.lemmas.Bool.{eqb-true, eq-eqb}
 use Rattle.std.proofs.lemmas.Grind.{get_or-set_at}
-use Rattle.std.proofs.lemmas.List.{get_or-set_other, map_more, length-map, length-take-le}
-use Rattle.wat_expr.specs.Expression.{hint_view, expression_view}
+use Rattle.std.proofs.lemmas.List.{get_or-set_other, map_more, length-take-le}
+use Rattle.wat_core.specs.Prelude.{InstructionModel, by_test}
+use Rattle.wat_show.specs.Prelude.{length-map, hint_view, expression_view, Instruction, op_in, operand_in, instruction_view, op_word, hint_at, lines, AreMarks, instr_text, shown_operand}
+use Rattle.wat_show.specs.Expressions.{line, lines_of}
 use Rattle.wat_expr.specs.declared.expression.BranchHint.{BranchHint}
 use Rattle.wat_expr.specs.declared.expression.Expression.{Expression}
-use Rattle.wat_instr.specs.Instruction.{Instr, Instruction, op_in, operand_in, instruction_view}
-use Rattle.wat_mnemonics.specs.Ops.{op_word}
-use Rattle.wat_show.specs.Expressions.{hint_at, line, lines, AreMarks, lines_of}
-use Rattle.wat_show.specs.Expressions.{instr_text, shown_operand}
 use Rattle.wat_show.proofs.InstructionText.{instruction_text}
 use Rattle.wat_show.proofs.Added.{added_both}
-use Rattle.wat_tokens.specs.Laws.Production.{by_test}
 
 -- one more hint after the others is the hint for its index, if no other hint has this index
 pub hint_more : (hs : List (ℕ × ℕ)) (h : ℕ × ℕ) (k : ℕ) → hint_at hs k ≡ None → hint_at (hs ++ h ∷ []) k ≡ (if h.0 == k then Some h.1 else None)
@@ -79,7 +75,7 @@ marks_more hints n d marks lt are = subst (λ (hs : List (ℕ × ℕ)). AreMarks
 
 module _ (front : List ℕ) where
   -- one more instruction is one more line
-  pub lines_more : (hint : ℕ → Option ℕ) (k : ℕ) (is : List Instr) (i : Instr) (n : ℕ) → k + length is ≡ n → lines front hint k (is ++ i ∷ []) ≡ lines front hint k is ++ line front i (hint n)
+  pub lines_more : (hint : ℕ → Option ℕ) (k : ℕ) (is : List InstructionModel) (i : InstructionModel) (n : ℕ) → k + length is ≡ n → lines front hint k (is ++ i ∷ []) ≡ lines front hint k is ++ line front i (hint n)
   lines_more hint k [] i n e = let f : k ≡ n = omega arith in rw f (append-nil (line front i (hint n)))
   lines_more hint k (j ∷ is) i n e =
       rw (lines_more hint (k + 1) is i n (omega arith)) (sym (append_assoc (line front j (hint k)) (lines front hint (k + 1) is) (line front i (hint n))))
@@ -89,11 +85,11 @@ module _ (front : List ℕ) where
       let before = map instruction_view (take n instrs) in
       let count : 0 + length before ≡ n = omega (arith, length-map (take n instrs) instruction_view, length-take-le n instrs (omega arith)) in
       let whole : before ++ instruction_view x ∷ [] ≡ map instruction_view (take (n + 1) instrs) = ap (λ (y : Instruction). before ++ instruction_view y ∷ []) is ∙ sym (map_more instruction_view instrs n x lt) in
-      let text : lines front hint 0 (map instruction_view (take (n + 1) instrs)) ≡ lines front hint 0 before ++ line front (instruction_view x) (hint n) = ap (λ (l : List Instr). lines front hint 0 l) (sym whole) ∙ lines_more hint 0 before (instruction_view x) n count in
+      let text : lines front hint 0 (map instruction_view (take (n + 1) instrs)) ≡ lines front hint 0 before ++ line front (instruction_view x) (hint n) = ap (λ (l : List InstructionModel). lines front hint 0 l) (sym whole) ∙ lines_more hint 0 before (instruction_view x) n count in
       adds ∙ ap (λ (l : List ℕ). l ++ line front (instruction_view x) (hint n)) was ∙ append_assoc old (lines front hint 0 before) (line front (instruction_view x) (hint n)) ∙ ap (λ (l : List ℕ). old ++ l) (sym text)
 
   -- the lines are equal if the hints for their indices are equal
-  pub lines_agree : (f g : ℕ → Option ℕ) (k : ℕ) (is : List Instr) → ((j : ℕ) → j < k + length is → f j ≡ g j) → lines front f k is ≡ lines front g k is
+  pub lines_agree : (f g : ℕ → Option ℕ) (k : ℕ) (is : List InstructionModel) → ((j : ℕ) → j < k + length is → f j ≡ g j) → lines front f k is ≡ lines front g k is
   lines_agree f g k [] same = refl
   lines_agree f g k (i ∷ is) same =
       rw (same k (omega arith), lines_agree f g (k + 1) is (λ j l. same j (omega arith))) refl

@@ -1,10 +1,7 @@
 -- The output for a text is right for the bytes of the text.
-use Rattle.std.proofs.Common.{◌≡◌, ◌≢◌, ℕ, List, inl, inr, subst}
-use Rattle.std.specs.Prelude.{Result, Ok, Err, IfOk}
-use Rattle.std.specs.Str.{IsUtf8}
+use Rattle.std.proofs.Common.{◌≡◌, ◌≢◌, ℕ, List, inl, inr, subst, Result, Ok, Err, IfOk}
+use Rattle.wat_show.specs.Prelude.{IsUtf8, Error, Memory, offset_of}
 use Rattle.wat_show.specs.Shown.{refusal, ShowsText, ShowsBytes}
-use Rattle.wat_tokens.specs.Error.{Error, Memory}
-use Rattle.wat_tokens.specs.Place.{offset_of}
 
 module _ {A X E : Type 0} (spelled : List ℕ → A → Type 0) (listing : A → List ℕ) (text : List ℕ) where
   pub no_value : (result : Result X E) (out : X → List ℕ) (status : X → ℕ) (e : Error) → IfOk result (λ x. e.fault ≢ Memory) → IfOk result (λ x. out x ≡ refusal e.fault (offset_of e.span)) → IfOk result (λ x. status x ≡ 1) → (e.fault ≢ Memory → (v : A) → spelled text v → ⊥) → IfOk result (λ x. ShowsText spelled listing text (out x) (status x))

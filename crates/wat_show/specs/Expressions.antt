@@ -1,16 +1,10 @@
 -- How instructions and expressions are listed.
-use Rattle.std.specs.Prelude.{◌≡◌, ◌==◌, Bool, true, false, ℕ, ◌+◌, ◌<◌, List, [], ◌∷◌, ◌++◌}
-use Rattle.std.specs.Prelude.{codes, decimal, length, Option, Some, None, if◌then◌else◌}
-use Rattle.std.specs.Fmt.{signed_decimal}
-use Rattle.std.proofs.Common.{get_or}
-use Rattle.wat_expr.specs.Expression.{Expr}
-use Rattle.wat_mnemonics.specs.Ops.{op_word}
-use Rattle.wat_mnemonics.specs.Places.{op_of_row}
-use Rattle.wat_mnemonics.specs.declared.op.Op.{Op}
-use Rattle.wat_mnemonics.specs.declared.op.Op.TheVariants as ops
-use Rattle.wat_instr.specs.Instruction.{Instr}
-use Rattle.wat_instr.specs.Operand.{Operand, one_index, integer}
+use Rattle.std.specs.Prelude.{◌≡◌, ◌==◌, Bool, true, false, ℕ, ◌+◌, ◌<◌, List, [], ◌∷◌, ◌++◌, codes, decimal, length, Option, Some, None, if◌then◌else◌, get_or}
+use Rattle.wat_core.specs.Prelude.{signed_decimal, ExpressionModel, op_word, Op, InstructionModel, Operand}
+use Rattle.wat_instr.specs.Operand.{one_index, integer}
+use Rattle.wat_mnemonics.specs.TableIndex.{op_of_row}
 use Rattle.wat_show.specs.Types.{index_text}
+use Rattle.wat_mnemonics.specs.declared.op.Op.TheVariants as ops
 
 -- ---- instructions
 
@@ -36,7 +30,7 @@ abbrev pub headed_text : Op → Operand → List ℕ
 headed_text h o = op_word h ++ shown_operand h o
 
 -- the listing of an instruction; its row gives the mnemonic
-unfoldable pub instr_text : Instr → List ℕ
+unfoldable pub instr_text : InstructionModel → List ℕ
 instr_text i = headed_text (op_of_row i.row) i.operand
 
 -- ---- expressions
@@ -52,25 +46,25 @@ hint_text None = []
 hint_text (Some v) = codes " hint " ++ decimal v
 
 -- a line: a prefix, an instruction and its hint
-abbrev pub line : List ℕ → Instr → Option ℕ → List ℕ
+abbrev pub line : List ℕ → InstructionModel → Option ℕ → List ℕ
 line front i hint = front ++ (instr_text i ++ (hint_text hint ++ codes "\n"))
 
 -- Instructions, each on a line after the prefix `front`. The first instruction has the index k. The
 -- line of the instruction at an index shows the value of `hint` at this index.
-abbrev pub lines : List ℕ → (ℕ → Option ℕ) → ℕ → List Instr → List ℕ
+abbrev pub lines : List ℕ → (ℕ → Option ℕ) → ℕ → List InstructionModel → List ℕ
 lines front hint k [] = []
 lines front hint k (i ∷ is) = line front i (hint k) ++ lines front hint (k + 1) is
 
 -- the instructions of an expression, each on a line after the prefix, with the first hint for its index
-unfoldable pub lines_of : List ℕ → Expr → List ℕ
+unfoldable pub lines_of : List ℕ → ExpressionModel → List ℕ
 lines_of front e = lines front (hint_at e.hints) 0 e.instrs
 
 -- the instructions of an expression, each on a line
-abbrev pub expression_text : Expr → List ℕ
+abbrev pub expression_text : ExpressionModel → List ℕ
 expression_text e = lines_of [] e
 
 -- the same, indented by two spaces
-abbrev pub below : Expr → List ℕ
+abbrev pub below : ExpressionModel → List ℕ
 below e = lines_of (codes "  ") e
 
 -- the marks hold the first hint for each index below their number

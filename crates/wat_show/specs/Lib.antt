@@ -1,6 +1,6 @@
 pub use Rattle.wat_tokens.specs.Error
 pub use Rattle.wat_tokens.specs.Index
-pub use Rattle.wat_tokens.specs.Place
+pub use Rattle.wat_tokens.specs.Offset
 pub use Rattle.wat_tokens.specs.Token
 pub use Rattle.wat_tokens.specs.Whole
 pub use Rattle.wat_types.specs.Function
@@ -35,3 +35,4 @@ pub mod Shown
 pub mod Streams
 pub mod Types
 pub mod Words
+pub mod Prelude

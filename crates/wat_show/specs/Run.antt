@@ -1,7 +1,7 @@
 -- The contract of a run.
-use Rattle.std.specs.Prelude.{◌≡◌, ◌↔◌, ◌⊎◌, ℕ, List, Option, Result, IsTrue, IfOk, IsErrOf}
+use Rattle.std.specs.Prelude.{IsErrOf, ◌≡◌, ◌↔◌, ◌⊎◌, ℕ, List, Option, Result, IsTrue, IfOk}
 use Rattle.std.specs.Io.KnownBytes.{Appends}
-use Rattle.wat_show.specs.Streams.{ReadsAll, ReadsOn, AppendsBeginning}
+use Rattle.wat_show.specs.Streams.{AppendsBeginning, ReadsAll, ReadsOn}
 use Rattle.wat_show.specs.declared.error.RunError.{RunError}
 use Rattle.wat_show.specs.declared.error.RunError.TheVariants.{Read, Write, Memory}
 use Rattle.wat_show.specs.declared.watched.Watched.{Watched}

@@ -1,7 +1,7 @@
 -- The output of the program.
 use Rattle.std.specs.Prelude.{◌≡◌, ◌≢◌, ◌⊎◌, ℕ, List, ◌++◌, codes, decimal}
-use Rattle.std.specs.Str.{IsUtf8}
-use Rattle.wat_tokens.specs.Error.{Fault, Memory, Utf8}
+use Rattle.wat_show.specs.Prelude.{IsUtf8, Memory}
+use Rattle.wat_tokens.specs.Error.{Fault, Utf8}
 use Rattle.wat_tokens.specs.Faults.{fault_name}
 
 -- `refused NAME at OFFSET`

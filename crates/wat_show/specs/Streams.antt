@@ -1,7 +1,7 @@
 -- The effects of a run on its reader and its writer. The definitions of std describe the bytes that a
 -- reader has left and the bytes that a writer holds, if these bytes are known.
 use Rattle.std.specs.Prelude.{◌≡◌, ◌≢◌, ℕ, List, [], ◌++◌, ⊤, Option, Result, MatchResult}
-use Rattle.std.specs.Io.KnownBytes.{Consumes, Appends, IsAtEnd}
+use Rattle.std.specs.Io.KnownBytes.{IsAtEnd, Consumes, Appends}
 
 -- the reader returned these bytes, and is at its end
 abbrev pub ReadsAll : Option (List ℕ) → Option (List ℕ) → List ℕ → Type 0

@@ -1,12 +1,8 @@
 //! The listing of instructions and expressions. The only error is out of memory.
 
-ghost use Rattle.std.specs.Prelude.{◌≡◌, ◌++◌, ◌∷◌, [], List, ℕ, None, OnOk, IfOk, length, map};
-ghost use Rattle.std.proofs.Common.{get_or};
-ghost use Rattle.wat_expr.specs.Expression.{hint_view, expression_view};
-ghost use Rattle.wat_instr.specs.Instruction.{op_in, operand_in, instruction_view};
-ghost use Rattle.wat_show.specs.Expressions.{shown_operand, instr_text};
-ghost use Rattle.wat_show.specs.Expressions.{AreMarks, line, lines, lines_of, hint_text, hint_at};
-ghost use Rattle.wat_show.specs.Expressions.{expression_text, below};
+ghost use Rattle.std.specs.Prelude.{◌≡◌, ◌++◌, ◌∷◌, [], List, ℕ, None, OnOk, IfOk, length, map, get_or};
+ghost use Rattle.wat_show.specs.Prelude.{hint_view, expression_view, op_in, operand_in, instruction_view};
+ghost use Rattle.wat_show.specs.Expressions.{shown_operand, instr_text, AreMarks, lines, hint_at, line, lines_of, hint_text, expression_text, below};
 
 use crate::types::add_index;
 use crate::words::{add, add_byte, add_number, add_signed};

@@ -1,25 +1,8 @@
 //! The listing of a module's fields. The only error is out of memory.
 
 ghost use Rattle.std.specs.Prelude.{◌≡◌, ◌++◌, ℕ, List, OnOk, length, map};
-ghost use Rattle.wat_core.specs.Field.{field_view};
-ghost use Rattle.wat_fields.specs.DataVal.{bytes_in, data_val_view, data_vals_view};
-ghost use Rattle.wat_expr.specs.Expression.{expression_view};
-ghost use Rattle.wat_links.specs.Custom.{custom_view};
-ghost use Rattle.wat_fields.specs.Data.{data_kind_view};
-ghost use Rattle.wat_fields.specs.Elem.{elem_kind_view};
-ghost use Rattle.wat_fields.specs.Func.{func_kind_view};
-ghost use Rattle.wat_fields.specs.Global.{global_kind_view};
-ghost use Rattle.wat_fields.specs.Memory.{memory_kind_view};
-ghost use Rattle.wat_fields.specs.Payload.{payload_view};
-ghost use Rattle.wat_fields.specs.Table.{table_kind_view};
-ghost use Rattle.wat_fields.specs.Tag.{tag_kind_view};
-ghost use Rattle.wat_links.specs.Import.{items_view};
-ghost use Rattle.wat_tokens.specs.Index.{index_view};
-ghost use Rattle.wat_show.specs.Fields.{import_text, export_text, func_text, global_text, tag_text};
-ghost use Rattle.wat_show.specs.Fields.{all_below, payload_line, payload_lines, table_text};
-ghost use Rattle.wat_show.specs.Fields.{elem_word, offset_lines, elem_text, start_text};
-ghost use Rattle.wat_show.specs.Fields.{memory_text, data_text, custom_text};
-ghost use Rattle.wat_show.specs.Fields.{byte_count, field_text};
+ghost use Rattle.wat_core.specs.Prelude.{field_view, bytes_in, data_val_view, data_vals_view, expression_view, custom_view, data_kind_view, elem_kind_view, func_kind_view, global_kind_view, memory_kind_view, payload_view, table_kind_view, tag_kind_view, items_view, index_view};
+ghost use Rattle.wat_show.specs.Fields.{import_text, export_text, func_text, global_text, tag_text, all_below, payload_line, payload_lines, table_text, elem_word, offset_lines, elem_text, start_text, memory_text, data_text, custom_text, byte_count, field_text};
 
 use crate::expressions::add_below;
 use crate::types::add_index;

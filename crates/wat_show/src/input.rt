@@ -1,5 +1,5 @@
 //! Reading all input.
-ghost use Rattle.std.specs.Prelude.{◌≡◌, ◌↔◌, ◌⊎◌, IsTrue, IfOk, OnErr, IsErrOf};
+ghost use Rattle.std.specs.Prelude.{◌↔◌, ◌⊎◌, IsTrue, IfOk, OnErr, IsErrOf};
 ghost use Rattle.wat_show.specs.Streams.{ReadsAll, ReadsOn};
 
 use crate::error::RunError;

@@ -1,10 +1,9 @@
 //! The listing of modules. The only error is out of memory.
 
 ghost use Rattle.std.specs.Prelude.{◌≡◌, ◌++◌, OnOk, map, flat_map};
-ghost use Rattle.wat_core.specs.Field.{field_view};
-ghost use Rattle.wat_core.specs.Module.{module_kind_view, module_view};
+ghost use Rattle.wat_core.specs.Prelude.{field_view, module_view};
 ghost use Rattle.wat_show.specs.Fields.{field_text};
-ghost use Rattle.wat_show.specs.Modules.{kind_text, module_text};
+ghost use Rattle.wat_show.specs.Modules.{module_text};
 
 use crate::fields::{add_field, total};
 use crate::words::add_counted;
@@ -22,24 +21,16 @@ fn add_fields(out: &mut Vec<u8>, fields: &[ModuleField]) -> Result<(), AllocErro
     Ok(())
 }
 
-/// Adds the line of a module, and then the listings of its fields.
-fn add_kind(out: &mut Vec<u8>, kind: &ModuleKind) -> Result<(), AllocError>
-    ensures { OnOk result (out.new.items ≡ out.old.items ++ kind_text
-        (module_kind_view kind.now)) }
+/// Appends the line of a module, and then the lines of its fields.
+pub fn add_module(out: &mut Vec<u8>, module: &Module) -> Result<(), AllocError>
+    ensures { OnOk result (out.new.items ≡ out.old.items ++ module_text
+        (module_view «module».now)) }
 {
-    match kind {
+    match &module.kind {
         ModuleKind::Text(fields) => {
             add_counted(out, "module text ", fields.len() as u128)?;
             add_fields(out, fields)
         }
         ModuleKind::Binary(pieces) => add_counted(out, "module binary ", total(pieces)),
     }
-}
-
-/// Appends the line of a module, and then the lines of its fields.
-pub fn add_module(out: &mut Vec<u8>, module: &Module) -> Result<(), AllocError>
-    ensures { OnOk result (out.new.items ≡ out.old.items ++ module_text
-        (module_view «module».now)) }
-{
-    add_kind(out, &module.kind)
 }

@@ -1,7 +1,6 @@
 //! Writing the whole output.
-ghost use Rattle.std.specs.Prelude.{◌≡◌, ◌↔◌, ◌⊎◌, IsTrue, IsErr, OnOk, OnErr, IsOkUnless};
-ghost use Rattle.std.specs.Io.KnownBytes.{Appends};
-ghost use Rattle.wat_show.specs.Streams.{AppendsBeginning};
+ghost use Rattle.std.specs.Prelude.{◌↔◌, ◌⊎◌, IsTrue, IsErr, OnOk, OnErr, IsOkUnless};
+ghost use Rattle.wat_show.specs.Prelude.{Appends, AppendsBeginning};
 
 use crate::error::RunError;
 use crate::watched::Watched;

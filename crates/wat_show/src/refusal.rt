@@ -1,9 +1,8 @@
 //! The output for a text that is refused.
 
 ghost use Rattle.std.specs.Prelude.{◌≡◌, ◌≢◌, IfOk};
+ghost use Rattle.wat_show.specs.Prelude.{Memory, offset_of};
 ghost use Rattle.wat_show.specs.Shown.{refusal};
-ghost use Rattle.wat_tokens.specs.Error.{Memory};
-ghost use Rattle.wat_tokens.specs.Place.{offset_of};
 
 use crate::words::{add, add_number};
 use std::alloc::{AllocError, Global};

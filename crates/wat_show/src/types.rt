@@ -1,16 +1,13 @@
 //! The listing of indices and function types. The only error is out of memory.
 
-ghost use Rattle.std.specs.Prelude.{◌≡◌, ◌++◌, ◌∷◌, [], List, ℕ, OnOk, map, codes};
-ghost use Rattle.wat_tokens.specs.Index.{index_view};
-ghost use Rattle.wat_types.specs.Heap.{heap_view, abstract_};
-ghost use Rattle.wat_types.specs.Reference.{ref_view};
-ghost use Rattle.wat_types.specs.Value.{val_view};
-ghost use Rattle.wat_types.specs.Function.{function_view, params_view};
-ghost use Rattle.wat_show.specs.Types.{index_text, within, heap_text, ref_text};
-ghost use Rattle.wat_show.specs.Types.{val_text, types_text, param_types, function_text};
+ghost use Rattle.std.specs.Prelude.{◌≡◌, ◌++◌, OnOk, map, codes};
+ghost use Rattle.wat_core.specs.Prelude.{index_view, abstract_, ref_view, val_view, function_view, params_view};
+ghost use Rattle.wat_types.specs.Heap.{heap_view};
+ghost use Rattle.wat_show.specs.Types.{index_text, heap_text, ref_text, val_text, types_text, param_types, function_text};
 
 use crate::words::{add, add_byte, add_number};
 use std::alloc::AllocError;
+use wat_tokens::words::NamedByKeyword;
 use wat_tokens::{Id, Index, NameAnnotation};
 use wat_types::{AbstractHeapType, FunctionType, HeapType, RefType, ValType};
 

@@ -1,19 +1,11 @@
 //! The output for a text that is parsed as a value.
 
 ghost use Rattle.std.specs.Prelude.{◌≡◌, ◌++◌, ℕ, List, false, OnOk, IfOk, MatchResult};
-ghost use Rattle.wat_core.specs.Module.{ModuleTy, module_view};
-ghost use Rattle.wat_core.specs.Text.{SpellsModule};
-ghost use Rattle.wat_expr.specs.Expression.{Expr, expression_view};
-ghost use Rattle.wat_expr.specs.FoldedProduction.{folded_instruction};
-ghost use Rattle.wat_expr.specs.ExpressionProduction.{expression};
+ghost use Rattle.wat_core.specs.Prelude.{ModuleModel, module_view, SpellsModule, ExpressionModel, expression_view, folded_instruction, expression, Memory, TextSpells, function_view, function_type, FunctionTypeModel};
 ghost use Rattle.wat_show.specs.Expressions.{expression_text};
 ghost use Rattle.wat_show.specs.Types.{function_text};
 ghost use Rattle.wat_show.specs.Modules.{module_text};
 ghost use Rattle.wat_show.specs.Shown.{ShowsText};
-ghost use Rattle.wat_tokens.specs.Error.{Memory};
-ghost use Rattle.wat_tokens.specs.Whole.{TextSpells};
-ghost use Rattle.wat_types.specs.Function.{function_view, function_type};
-ghost use Rattle.wat_types.specs.Group.{FuncTy};
 
 use crate::expressions::add_expression;
 use crate::modules::add_module;
@@ -28,7 +20,7 @@ use wat_tokens::whole_text::read_text;
 use wat_types::FunctionType;
 
 /// A type whose values are read from a text and listed.
-pub(crate) trait Listed<'a>: Sized {
+pub(crate) trait ListedValue<'a>: Sized {
     /// The type of the view of a value in contracts.
     ghost View: { Type 0 };
 
@@ -52,8 +44,8 @@ pub(crate) trait Listed<'a>: Sized {
         ensures { OnOk result (out.new.items ≡ out.old.items ++ listing (view self.now)) };
 }
 
-impl<'a> Listed<'a> for FunctionType<'a> {
-    ghost View = { FuncTy };
+impl<'a> ListedValue<'a> for FunctionType<'a> {
+    ghost View = { FunctionTypeModel };
 
     ghost view = { function_view };
 
@@ -70,8 +62,8 @@ impl<'a> Listed<'a> for FunctionType<'a> {
     }
 }
 
-impl<'a> Listed<'a> for Expression<'a> {
-    ghost View = { Expr };
+impl<'a> ListedValue<'a> for Expression<'a> {
+    ghost View = { ExpressionModel };
 
     ghost view = { expression_view };
 
@@ -88,8 +80,8 @@ impl<'a> Listed<'a> for Expression<'a> {
     }
 }
 
-impl<'a> Listed<'a> for FoldedInstruction<'a> {
-    ghost View = { Expr };
+impl<'a> ListedValue<'a> for FoldedInstruction<'a> {
+    ghost View = { ExpressionModel };
 
     ghost view = { λ folded. expression_view folded.0 };
 
@@ -106,8 +98,8 @@ impl<'a> Listed<'a> for FoldedInstruction<'a> {
     }
 }
 
-impl<'a> Listed<'a> for Module<'a> {
-    ghost View = { ModuleTy };
+impl<'a> ListedValue<'a> for Module<'a> {
+    ghost View = { ModuleModel };
 
     ghost view = { module_view };
 
@@ -125,7 +117,7 @@ impl<'a> Listed<'a> for Module<'a> {
 }
 
 /// Returns the output for a text that is parsed as a value of the type, and the exit status.
-pub(crate) fn show_value<'a, T: Listed<'a> + Drop>(
+pub(crate) fn show_value<'a, T: ListedValue<'a> + Drop>(
     alloc: Global,
     text: &'a str,
     arena: &'a Bump,

@@ -1,16 +1,8 @@
 -- The counts of one step of the parser.
-use Rattle.std.specs.Prelude.{◌≡◌, ◌≢◌, ℕ, ◌+◌, ◌≤◌, List, [], ◌∷◌, ◌++◌, length, max, refl, drop, take}
-use Rattle.std.proofs.Common.{arith, sym, ap, ◌∙◌, subst}
-use Rattle.std.proofs.lemmas.List.{append_cancel_right}
-use Rattle.wat_lexer.specs.Token.{Tok}
-use Rattle.wat_lexer.specs.Sight.{hidden_count}
-use Rattle.wat_tokens.specs.Parens.{nest}
-use Rattle.wat_tokens.specs.State.{State, behind}
-use Rattle.wat_tokens.specs.Counts.{Counts, Carries, Quiet}
-use Rattle.wat_tokens.specs.Laws.Counts.{carries_of, carried, counts_within}
-use Rattle.wat_tokens.specs.Outcome.{TakesPrefix}
+use Rattle.std.proofs.Common.{◌≡◌, ◌≢◌, ℕ, ◌+◌, ◌≤◌, List, [], ◌∷◌, ◌++◌, length, max, refl, drop, take, arith, sym, ap, ◌∙◌, subst}
+use Rattle.wat_tokens.specs.Laws.Prelude.{append_cancel_right, Token, hidden_count, nest, State, behind, Counts, Carries, Quiet, carries_of, carried, counts_within, TakesPrefix}
 
-some_left : (l : List Tok) → l ≢ [] → (take 1 l ++ drop 1 l ≡ l) × (length (take 1 l) ≡ 1)
+some_left : (l : List Token) → l ≢ [] → (take 1 l ++ drop 1 l ≡ l) × (length (take 1 l) ≡ 1)
 some_left [] f = absurd (f refl)
 some_left (x ∷ l) f = (refl, refl)
 
@@ -31,12 +23,12 @@ pub takes_prefix : (a b : State) → Carries a b → TakesPrefix a b
 unfolding Counts
 takes_prefix a b f =
     let p = carried a b f in
-    let same : (c : List Tok) → a.left ≡ c ++ b.left → p.front ≡ c = λ c e. append_cancel_right p.front c b.left (sym p.left ∙ e) in
+    let same : (c : List Token) → a.left ≡ c ++ b.left → p.front ≡ c = λ c e. append_cancel_right p.front c b.left (sym p.left ∙ e) in
     record {
       end = (p.front, p.left);
-      position = λ c e. p.position ∙ ap (λ (l : List Tok). behind a.known (length l) a.rest) (same c e);
-      taken = λ c e. p.taken ∙ ap (λ (l : List Tok). a.taken + length l) (same c e);
+      position = λ c e. p.position ∙ ap (λ (l : List Token). behind a.known (length l) a.rest) (same c e);
+      taken = λ c e. p.taken ∙ ap (λ (l : List Token). a.taken + length l) (same c e);
       within = counts_within a b f;
-      peak = λ c e. subst (λ (l : List Tok). b.peak ≤ max a.peak (nest l)) (same c e) p.peak;
+      peak = λ c e. subst (λ (l : List Token). b.peak ≤ max a.peak (nest l)) (same c e) p.peak;
       grows = p.more;
     }

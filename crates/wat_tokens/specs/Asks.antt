@@ -1,6 +1,6 @@
 -- What a production asks of the rest, and which rests are alike for it.
 use Rattle.std.specs.Prelude.{◌≡◌, ℕ, ◌≤◌, Bool, List, ◌++◌, length, ⊤}
-use Rattle.wat_lexer.specs.Token.{Tok}
+use Rattle.wat_lexer.specs.Token.{Token}
 use Rattle.wat_tokens.specs.Parens.{opens, closes}
 use Rattle.wat_tokens.specs.Test.{Test, run}
 
@@ -16,11 +16,11 @@ pub data Asks : Type 0 where
   everything : Asks
 
 -- u gives each answer that t gives
-abbrev pub Alike : Asks → List Tok → List Tok → Type 0
+abbrev pub Alike : Asks → List Token → List Token → Type 0
 Alike nothing t u = ⊤
 Alike (ask b test) t u = run test t ≡ b → run test u ≡ b
 Alike (also a b) t u = Alike a t u × Alike b t u
 Alike (behind k a) t u =
-    (e : List Tok) → k ≤ length e → opens e ≤ closes e → Alike a (e ++ t) (e ++ u)
+    (e : List Token) → k ≤ length e → opens e ≤ closes e → Alike a (e ++ t) (e ++ u)
 Alike everything t u =
-    (e : List Tok) (b : Bool) (test : Test) → run test (e ++ t) ≡ b → run test (e ++ u) ≡ b
+    (e : List Token) (b : Bool) (test : Test) → run test (e ++ t) ≡ b → run test (e ++ u) ≡ b

@@ -1,6 +1,6 @@
 -- How a call changes the counts of a parser.
 use Rattle.std.specs.Prelude.{◌≡◌, ℕ, ◌+◌, ◌≤◌, List, ◌++◌, length, max, Result, Ok, Err}
-use Rattle.wat_lexer.specs.Token.{Tok}
+use Rattle.wat_lexer.specs.Token.{Token}
 use Rattle.wat_tokens.specs.Parens.{nest}
 use Rattle.wat_tokens.specs.State.{State, behind}
 
@@ -11,7 +11,7 @@ Grows a b = (a.turns ≤ b.turns) × (a.probes ≤ b.probes) × (a.peak ≤ b.pe
 -- From a to b the tokens `front` were taken, and the position is directly after them. No count
 -- fell, `peak` rose at most to the nesting of `front`, and `known` did not change.
 pub record CountsBy (a : State) (b : State) : Type 0 where
-  pub front : List Tok
+  pub front : List Token
   pub left : a.left ≡ front ++ b.left
   pub taken : b.taken ≡ a.taken + length front
   pub more : Grows a b

@@ -1,12 +1,8 @@
 -- A part whose value decides the next part, and the empty part.
-use Rattle.wat_tokens.specs.Asks.{nothing, everything}
-use Rattle.wat_tokens.specs.Production.{Production}
-use Rattle.wat_tokens.specs.FollowedSpells.{followed_spells, followed_reads, blank_spells}
-use Rattle.wat_tokens.specs.FollowedSpells.{blank_reads}
-use Rattle.wat_tokens.specs.Laws.Followed.{followed_sound, followed_complete, followed_takes}
+use Rattle.wat_tokens.specs.Prelude.{nothing, everything, Production}
+use Rattle.wat_tokens.specs.FollowedSpells.{followed_spells, followed_reads, blank_spells, blank_reads}
+use Rattle.wat_tokens.specs.Laws.Followed.{followed_sound, followed_complete, followed_takes, followed_balanced, blank_sound, blank_complete, blank_takes, blank_balanced}
 use Rattle.wat_tokens.specs.Laws.Moves.{followed_moves}
-use Rattle.wat_tokens.specs.Laws.Followed.{followed_balanced, blank_sound, blank_complete}
-use Rattle.wat_tokens.specs.Laws.Followed.{blank_takes, blank_balanced}
 
 -- ---- a part, and then a part that depends on its value
 

@@ -5,12 +5,9 @@ use Rattle.wat_tokens.specs.Test.{at_ends}
 use Rattle.wat_tokens.specs.Asks.{nothing, ask, also, behind}
 use Rattle.wat_tokens.specs.Production.{Production}
 use Rattle.wat_tokens.specs.Parts.{one, seq, made, word}
-use Rattle.wat_tokens.specs.GroupSpells.{paren_spells, paren_reads, end_spells, end_reads}
-use Rattle.wat_tokens.specs.GroupSpells.{turn_spells, turn_reads}
-use Rattle.wat_tokens.specs.Laws.Groups.{paren_sound, paren_complete, paren_takes, paren_balanced}
-use Rattle.wat_tokens.specs.Laws.Groups.{end_sound, end_complete, end_takes, end_balanced}
+use Rattle.wat_tokens.specs.GroupSpells.{paren_spells, paren_reads, end_spells, end_reads, turn_spells, turn_reads}
+use Rattle.wat_tokens.specs.Laws.Groups.{paren_sound, paren_complete, paren_takes, paren_balanced, end_sound, end_complete, end_takes, end_balanced, turn_sound, turn_complete, turn_takes, turn_balanced}
 use Rattle.wat_tokens.specs.Laws.Moves.{paren_moves, end_moves}
-use Rattle.wat_tokens.specs.Laws.Groups.{turn_sound, turn_complete, turn_takes, turn_balanced}
 
 -- ---- ( .. )
 

@@ -1,7 +1,6 @@
 -- Integers, and their values as numbers of a given width.
 use Rattle.std.specs.Prelude.{ℕ, ℤ, List, Option, None, refl}
-use Rattle.wat_lexer.specs.Number.{unsigned_value, signed_value}
-use Rattle.wat_lexer.specs.Token.{Tok, Integer}
+use Rattle.wat_lexer.specs.Prelude.{unsigned_value, signed_value, Token, Integer}
 use Rattle.wat_tokens.specs.Tests.{as_integer}
 use Rattle.wat_tokens.specs.Production.{Production}
 use Rattle.wat_tokens.specs.Parts.{one}
@@ -11,12 +10,12 @@ abbrev pub integer : Production (List ℕ)
 integer = one as_integer (refl, refl)
 
 -- the token's value as an unsigned number of the given width in bits
-abbrev pub unsigned_of : ℕ → Tok → Option ℕ
+abbrev pub unsigned_of : ℕ → Token → Option ℕ
 unsigned_of bits (Integer text) = unsigned_value bits text
 unsigned_of bits _ = None
 
 -- the token's value as a signed number of the given width in bits
-abbrev pub signed_of : ℕ → Tok → Option ℤ
+abbrev pub signed_of : ℕ → Token → Option ℤ
 signed_of bits (Integer text) = signed_value bits text
 signed_of bits _ = None
 

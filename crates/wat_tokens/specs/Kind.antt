@@ -1,8 +1,6 @@
 -- Kinds of tokens, as data.
-use Rattle.std.specs.Prelude.{ℕ, Bool, true, false, ◌==◌, if◌then◌else◌, List, [], ◌∷◌, Option}
-use Rattle.std.specs.Prelude.{Some, None, is_some}
-use Rattle.std.specs.Str.{bytes_eq}
-use Rattle.wat_lexer.specs.Token.{Tok, LParen, RParen, Keyword, Id, Annotation, Integer, String}
+use Rattle.std.specs.Prelude.{ℕ, Bool, true, false, ◌==◌, if◌then◌else◌, List, [], ◌∷◌, Option, Some, None, is_some}
+use Rattle.wat_lexer.specs.Prelude.{bytes_eq, Token, LParen, RParen, Keyword, Id, Annotation, Integer, String}
 
 -- the text after the prefix, if it begins with the prefix
 unfoldable pub past_front : List ℕ → List ℕ → Option (List ℕ)
@@ -24,7 +22,7 @@ pub data Kind : Type 0 where
   an_annotation : List ℕ → Kind
 
 -- the token is of the kind
-abbrev pub fits : Kind → Tok → Bool
+abbrev pub fits : Kind → Token → Bool
 fits a_lparen LParen = true
 fits a_rparen RParen = true
 fits an_id (Id n) = true
@@ -37,6 +35,6 @@ fits (an_annotation n) (Annotation a) = bytes_eq a n
 fits _ _ = false
 
 -- the next token is of the kind
-abbrev pub next_is : Kind → List Tok → Bool
+abbrev pub next_is : Kind → List Token → Bool
 next_is k [] = false
 next_is k (x ∷ r) = fits k x

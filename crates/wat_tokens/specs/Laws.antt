@@ -9,6 +9,7 @@ pub mod Followed
 pub mod Groups
 pub mod Index
 pub mod Joined
+pub mod Kind
 pub mod Loops
 pub mod Many
 pub mod Moves
@@ -22,3 +23,4 @@ pub mod Settled
 pub mod Spelled
 pub mod State
 pub mod Test
+pub mod Prelude

@@ -3,7 +3,7 @@ pub use Rattle.wat_lexer.specs.Cut
 pub use Rattle.wat_lexer.specs.Faults
 pub use Rattle.wat_lexer.specs.Integer
 pub use Rattle.wat_lexer.specs.Number
-pub use Rattle.wat_lexer.specs.Place
+pub use Rattle.wat_lexer.specs.Offset
 pub use Rattle.wat_lexer.specs.Sight
 pub use Rattle.wat_lexer.specs.Token
 pub use Rattle.wat_lexer.specs.View
@@ -46,3 +46,4 @@ pub mod Test
 pub mod Tests
 pub mod Views
 pub mod Whole
+pub mod Prelude

@@ -1,6 +1,6 @@
 -- The result of a parse and the tokens that it takes, by the next tokens.
 use Rattle.std.specs.Prelude.{◌≡◌, ◌≢◌, ◌≤◌, ◌+◌, ◌++◌, List, length, max, Result, IfOk, IfErr}
-use Rattle.wat_lexer.specs.Token.{Tok}
+use Rattle.wat_lexer.specs.Token.{Token}
 use Rattle.wat_tokens.specs.Counts.{Grows}
 use Rattle.wat_tokens.specs.Error.{Error, Memory}
 use Rattle.wat_tokens.specs.Parens.{nest}
@@ -16,9 +16,9 @@ use Rattle.wat_tokens.specs.Views.{ViewOf}
 pub record ReadsPrefix {X A : Type 0} (view : ViewOf X A) (g : Production A) (r : Result X Error)
     (a b : State) : Type 0 where
   pub sound : IfOk r (λ x. Front g.spells a.left (view.of x, b.left))
-  pub accepts : (v : A) (c d : List Tok) → a.left ≡ c ++ d → g.spells v c d
+  pub accepts : (v : A) (c d : List Token) → a.left ≡ c ++ d → g.spells v c d
       → Accepts view r v b.left d
-  pub refused : IfErr r (λ e. e.fault ≢ Memory → (v : A) (c d : List Tok) → a.left ≡ c ++ d
+  pub refused : IfErr r (λ e. e.fault ≢ Memory → (v : A) (c d : List Token) → a.left ≡ c ++ d
       → g.spells v c d → ⊥)
 
 -- From a to b a prefix c of a.left was taken, also on an error.
@@ -29,9 +29,9 @@ pub record ReadsPrefix {X A : Type 0} (view : ViewOf X A) (g : Production A) (r 
 -- peak: `peak` is at most its old value, or the nesting of c
 -- grows: no count fell
 pub record TakesPrefix (a b : State) : Type 0 where
-  pub end : (c : List Tok) × (a.left ≡ c ++ b.left)
-  pub position : (c : List Tok) → a.left ≡ c ++ b.left → b.rest ≡ behind a.known (length c) a.rest
-  pub taken : (c : List Tok) → a.left ≡ c ++ b.left → b.taken ≡ a.taken + length c
+  pub end : (c : List Token) × (a.left ≡ c ++ b.left)
+  pub position : (c : List Token) → a.left ≡ c ++ b.left → b.rest ≡ behind a.known (length c) a.rest
+  pub taken : (c : List Token) → a.left ≡ c ++ b.left → b.taken ≡ a.taken + length c
   pub within : b.taken + length b.left ≡ a.taken + length a.left
-  pub peak : (c : List Tok) → a.left ≡ c ++ b.left → b.peak ≤ max a.peak (nest c)
+  pub peak : (c : List Token) → a.left ≡ c ++ b.left → b.peak ≤ max a.peak (nest c)
   pub grows : Grows a b

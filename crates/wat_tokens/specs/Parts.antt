@@ -1,25 +1,20 @@
 -- Parts of productions: one token, a sequence, a choice, a value made of parts, an optional part.
 -- Their relations and readers are in PartSpells.
 use Rattle.std.specs.Prelude.{ℕ, ◌+◌, min, Bool, true, false, List, Option, refl, is_some}
-use Rattle.wat_lexer.specs.Token.{Tok}
+use Rattle.wat_lexer.specs.Token.{Token}
 use Rattle.wat_tokens.specs.Tests.{word_only, annotation_only}
 use Rattle.wat_tokens.specs.Test.{Test, run, at_word}
 use Rattle.wat_tokens.specs.Asks.{nothing, ask, also, behind}
 use Rattle.wat_tokens.specs.Parens.{NoParens}
 use Rattle.wat_tokens.specs.Production.{Production}
-use Rattle.wat_tokens.specs.PartSpells.{one_spells, one_reads, seq_spells, seq_reads, where_spells}
-use Rattle.wat_tokens.specs.PartSpells.{where_reads, of_spells, of_reads, opt_spells, opt_reads}
-use Rattle.wat_tokens.specs.Laws.Parts.{one_sound, one_complete, one_takes, one_balanced, seq_sound}
-use Rattle.wat_tokens.specs.Laws.Parts.{seq_complete, seq_takes, seq_balanced, where_sound}
-use Rattle.wat_tokens.specs.Laws.Parts.{where_complete, where_takes, where_balanced, of_sound}
-use Rattle.wat_tokens.specs.Laws.Parts.{of_complete, of_takes, of_balanced, opt_sound, opt_complete}
-use Rattle.wat_tokens.specs.Laws.Parts.{opt_takes, opt_balanced}
+use Rattle.wat_tokens.specs.PartSpells.{one_spells, one_reads, seq_spells, seq_reads, where_spells, where_reads, of_spells, of_reads, opt_spells, opt_reads}
+use Rattle.wat_tokens.specs.Laws.Parts.{one_sound, one_complete, one_takes, one_balanced, seq_sound, seq_complete, seq_takes, seq_balanced, where_sound, where_complete, where_takes, where_balanced, of_sound, of_complete, of_takes, of_balanced, opt_sound, opt_complete, opt_takes, opt_balanced}
 use Rattle.wat_tokens.specs.Laws.Moves.{begun, seq_moves, where_moves, opt_moves}
 
 -- ---- one token that has a value
 
 -- a token that has a value by value_of; parentheses have no value
-abbrev pub one : {A : Type 0} → (value_of : Tok → Option A) → NoParens value_of → Production A
+abbrev pub one : {A : Type 0} → (value_of : Token → Option A) → NoParens value_of → Production A
 one value_of flat = record {
   spells = one_spells value_of;
   reads = one_reads value_of;

@@ -1,7 +1,6 @@
 -- The contract of a call that reads by a production.
 use Rattle.std.specs.Prelude.{◌≡◌, ◌+◌, drop, Result, Option, IfOk, IfErr}
-use Rattle.wat_lexer.specs.Sight.{hidden_count}
-use Rattle.wat_lexer.specs.Token.{Tok}
+use Rattle.wat_lexer.specs.Prelude.{hidden_count, Token}
 use Rattle.wat_tokens.specs.Cost.{Cost, tokens_alone, Costs}
 use Rattle.wat_tokens.specs.Counts.{Counted, SameSettings}
 use Rattle.wat_tokens.specs.Error.{Error, Unexpected}
@@ -37,7 +36,7 @@ ReadsAt price view g r a b = Call price view (g.reads a.left) r a b
 -- ---- a call that takes one token
 
 -- the call returns the value of the next token, with the view f
-abbrev pub Takes : {X A : Type 0} → (X → A) → (Tok → Option A) → Result X Error → State → State
+abbrev pub Takes : {X A : Type 0} → (X → A) → (Token → Option A) → Result X Error → State → State
     → Type 0
 Takes f value_of r a b = Call tokens_alone (plain f) (one_reads value_of a.left) r a b
 

@@ -1,12 +1,13 @@
 -- A production with another, equivalent relation.
 use Rattle.std.specs.Prelude.{List}
-use Rattle.wat_lexer.specs.Token.{Tok}
+use Rattle.wat_lexer.specs.Token.{Token}
 use Rattle.wat_tokens.specs.Production.{Production}
 
 -- g with the relation Spells, which is equivalent to g.spells
-abbrev pub restated : {A : Type 0} → (g : Production A) (Spells : A → List Tok → List Tok → Type 0)
-    → ((v : A) (c r : List Tok) → g.spells v c r → Spells v c r)
-    → ((v : A) (c r : List Tok) → Spells v c r → g.spells v c r) → Production A
+abbrev pub restated : {A : Type 0}
+    → (g : Production A) (Spells : A → List Token → List Token → Type 0)
+    → ((v : A) (c r : List Token) → g.spells v c r → Spells v c r)
+    → ((v : A) (c r : List Token) → Spells v c r → g.spells v c r) → Production A
 restated g Spells to from = record {
   spells = Spells;
   reads = g.reads;

@@ -2,8 +2,7 @@
 use Rattle.std.specs.Prelude.{ℕ, ◌+◌, ltb, max, Bool, true, false, not, ◌&&◌, if◌then◌else◌}
 use Rattle.wat_tokens.specs.Asks.{Asks, nothing, ask, also, behind, everything}
 use Rattle.wat_tokens.specs.Kind.{a_lparen}
-use Rattle.wat_tokens.specs.Test.{Question, starts, after, either, both, opposite, always}
-use Rattle.wat_tokens.specs.Test.{sight}
+use Rattle.wat_tokens.specs.Test.{Question, starts, after, either, both, opposite, always, sight}
 
 -- off: questions that the rest answers with no
 -- off_second: questions that the tokens after the first token of the rest answer with no

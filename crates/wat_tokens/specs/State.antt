@@ -1,8 +1,6 @@
 -- A parser as contracts see it.
 use Rattle.std.specs.Prelude.{◌≡◌, List, ℕ, zero, suc, ◌+◌, drop, Bool, true, false}
-use Rattle.wat_lexer.specs.Cut.{IsCut}
-use Rattle.wat_lexer.specs.Sight.{visible_tokens, hidden_count}
-use Rattle.wat_lexer.specs.Token.{Tok, Placed, tokens_of}
+use Rattle.wat_lexer.specs.Prelude.{IsCut, visible_tokens, hidden_count, Token, Placed, tokens_of}
 
 -- rest: all tokens from the position on; left: the visible tokens of rest;
 -- known: whether the five standard annotations are known;
@@ -11,8 +9,8 @@ use Rattle.wat_lexer.specs.Token.{Tok, Placed, tokens_of}
 -- of a table; peak: the greatest height of a stack of open groups; held: the greatest number of
 -- heads that the stack holds.
 pub record State : Type 0 where
-  pub rest : List Tok
-  pub left : List Tok
+  pub rest : List Token
+  pub left : List Token
   pub known : Bool
   pub tracks : Bool
   pub taken : ℕ
@@ -22,7 +20,7 @@ pub record State : Type 0 where
   pub held : ℕ
 
 -- a parser at the first token: no annotation is known, no span is kept, and all counts are 0
-abbrev pub begun : List Tok → State
+abbrev pub begun : List Token → State
 begun t = record {
   rest = t;
   left = visible_tokens false t;
@@ -40,7 +38,7 @@ abbrev pub IsFresh : List ℕ → State → Type 0
 IsFresh text p = (ts : List Placed) × IsCut text ts × (p ≡ begun (tokens_of ts))
 
 -- the tokens directly after the first n visible tokens
-unfoldable pub behind : Bool → ℕ → List Tok → List Tok
+unfoldable pub behind : Bool → ℕ → List Token → List Token
 behind known zero t = t
 behind known (suc n) t = behind known n (drop (hidden_count known t + 1) t)
 

@@ -1,7 +1,7 @@
 -- Strings and texts.
 use Rattle.std.specs.Prelude.{ℕ, List, Option, None, Some, if◌then◌else◌, refl}
 use Rattle.std.specs.Str.{is_utf8}
-use Rattle.wat_lexer.specs.Token.{Tok, String}
+use Rattle.wat_lexer.specs.Token.{Token, String}
 use Rattle.wat_tokens.specs.Tests.{as_string}
 use Rattle.wat_tokens.specs.Production.{Production}
 use Rattle.wat_tokens.specs.Parts.{one}
@@ -11,7 +11,7 @@ abbrev pub string : Production (List ℕ)
 string = one as_string (refl, refl)
 
 -- the content of a string that is UTF-8
-abbrev pub text_in : Tok → Option (List ℕ)
+abbrev pub text_in : Token → Option (List ℕ)
 text_in (String s) = if is_utf8 s then Some s else None
 text_in _ = None
 

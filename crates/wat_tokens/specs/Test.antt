@@ -1,10 +1,7 @@
 -- Tests of the next tokens, as data: what they ask, and how many tokens they look at.
-use Rattle.std.specs.Prelude.{◌≡◌, ℕ, ◌+◌, max, Bool, true, false, not, ◌&&◌, ◌||◌, refl}
-use Rattle.std.specs.Prelude.{List, [], ◌∷◌, is_some}
-use Rattle.std.specs.Cmp.Derive.{both_true}
-use Rattle.wat_lexer.specs.Token.{Tok, LParen, RParen}
-use Rattle.wat_tokens.specs.Kind.{Kind, a_lparen, an_id, an_integer, a_string, a_word, word_where}
-use Rattle.wat_tokens.specs.Kind.{an_annotation, fits, next_is}
+use Rattle.std.specs.Prelude.{◌≡◌, ℕ, ◌+◌, max, Bool, true, false, not, ◌&&◌, ◌||◌, refl, List, [], ◌∷◌, is_some}
+use Rattle.wat_lexer.specs.Prelude.{both_true, Token, LParen, RParen}
+use Rattle.wat_tokens.specs.Kind.{Kind, a_lparen, an_id, an_integer, a_string, a_word, word_where, an_annotation, fits, next_is}
 use Rattle.wat_tokens.specs.Tests.{ends, second, look_up}
 
 -- ---- questions
@@ -21,7 +18,7 @@ pub data Question : Type 0 where
   opposite : Question → Question
   always : Bool → Question
 
-abbrev pub answer : Question → List Tok → Bool
+abbrev pub answer : Question → List Token → Bool
 answer (starts k) t = next_is k t
 answer ended t = ends t
 answer (after a b) t = answer a t && second (λ r. answer b r) t
@@ -73,12 +70,12 @@ is_calm _ = true
 
 -- ---- tests
 
--- a question whose answer does not depend on what follows the end of a group
+-- a question whose answer is the same whether nothing, `(` or `)` follows the end of a group
 pub record Test : Type 0 where
   pub asks : Question
   pub calm : is_calm asks ≡ true
 
-abbrev pub run : Test → List Tok → Bool
+abbrev pub run : Test → List Token → Bool
 run t r = answer t.asks r
 
 abbrev pub test_of : (q : Question) → is_calm q ≡ true → Test

@@ -1,8 +1,6 @@
 -- Values that a whole text spells.
 use Rattle.std.specs.Prelude.{ℕ, Bool, List, []}
-use Rattle.wat_lexer.specs.Cut.{IsCut}
-use Rattle.wat_lexer.specs.Sight.{visible_tokens}
-use Rattle.wat_lexer.specs.Token.{Placed, tokens_of}
+use Rattle.wat_lexer.specs.Prelude.{IsCut, visible_tokens, Placed, tokens_of}
 use Rattle.wat_tokens.specs.Production.{Production}
 
 -- The text has a cut, and its visible tokens spell the value, to the last token. The first argument

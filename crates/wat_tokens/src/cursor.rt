@@ -1,8 +1,7 @@
 //! Lookahead at the next tokens. A lookup takes no token.
 
 ghost use Rattle.std.specs.Prelude.{◌≡◌, ◌≤◌, length, drop};
-ghost use Rattle.wat_lexer.specs.Sight.{hidden_count, visible_tokens};
-ghost use Rattle.wat_lexer.specs.View.{AreSkips, toks};
+ghost use Rattle.wat_lexer.specs.Prelude.{hidden_count, visible_tokens, AreSkips, entry_tokens};
 
 use crate::next_visible::next_visible;
 use wat_lexer::number::Integer;
@@ -25,7 +24,7 @@ pub struct Cursor<'p> {
     known: bool,
     ghost within: { at ≤ length tokens.now },
     ghost skips: { AreSkips tokens.now },
-    ghost shows: { hidden_count known (toks (drop at tokens.now)) ≡ 0 },
+    ghost shows: { hidden_count known (entry_tokens (drop at tokens.now)) ≡ 0 },
 }
 
 impl<'p> Cursor<'p> {
@@ -41,8 +40,8 @@ impl<'p> Cursor<'p> {
     pub(crate) fn new(tokens: &'p Tokens<'p>, at: usize, known: bool) -> Cursor<'p>
         requires within { at ≤ length tokens.now }
         requires skips { AreSkips tokens.now }
-        requires shows { hidden_count known (toks (drop at tokens.now)) ≡ 0 }
-        ensures { in_front result ≡ visible_tokens known (toks (drop at tokens.entry.now)) }
+        requires shows { hidden_count known (entry_tokens (drop at tokens.now)) ≡ 0 }
+        ensures { in_front result ≡ visible_tokens known (entry_tokens (drop at tokens.entry.now)) }
     {
         Cursor { tokens, at, known }
     }
@@ -52,7 +51,7 @@ impl<'p> Cursor<'p> {
     fn moved_to(self, place: usize) -> Cursor<'p>
         requires { place ≤ length self.tokens.now }
         ensures { in_front result ≡ visible_tokens self.entry.known
-            (toks (drop place self.entry.tokens.now)) }
+            (entry_tokens (drop place self.entry.tokens.now)) }
     {
         let at = next_visible(self.tokens, place, self.known);
         Cursor::new(self.tokens, at, self.known)

@@ -3,10 +3,7 @@
 //! These functions are generic to keep proofs fast. A body that holds a value of a large type
 //! across a call that may fail has to drop the value if the call fails, and is slow to prove.
 
-ghost use Rattle.wat_tokens.specs.Groups.{group, paren};
-ghost use Rattle.wat_tokens.specs.Parts.{after_word};
-ghost use Rattle.wat_tokens.specs.Reads.{ReadsAt};
-ghost use Rattle.wat_tokens.specs.Views.{holding};
+ghost use Rattle.wat_tokens.specs.Prelude.{group, paren, after_word, ReadsAt, holding};
 
 use crate::parser::Parser;
 use crate::traits::Parse;
@@ -60,7 +57,7 @@ pub struct Grouped<T>(pub T);
 impl<'a, T: Parse<'a> + Drop> Parse<'a> for Grouped<T> {
     ghost View = { T.View };
 
-    ghost view = { holding T.view (λ g. T.view.of g.0) T.view.bare };
+    ghost view = { holding T.view (λ g. T.view.of g.0) T.view.heapless };
 
     ghost cost = { T.cost };
 

@@ -1,9 +1,7 @@
 //! Floating-point literals, which this parser doesn't read.
 
 ghost use Rattle.std.specs.Prelude.{◌≢◌, ℕ};
-ghost use Rattle.wat_tokens.specs.Error.{Memory};
-ghost use Rattle.wat_tokens.specs.Floats.{none};
-ghost use Rattle.wat_tokens.specs.Views.{plain};
+ghost use Rattle.wat_tokens.specs.Prelude.{Memory, none, plain};
 
 use crate::cursor::Cursor;
 use crate::parser::Parser;

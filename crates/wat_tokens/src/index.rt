@@ -2,17 +2,16 @@
 
 ghost use Rattle.std.specs.Prelude.{◌≡◌, ◌↔◌, List, ℕ, IsTrue};
 ghost use Rattle.std.specs.Cmp.{partial_equiv_from_equiv, on_equiv, decided};
-ghost use Rattle.std.specs.Cmp.Lexicographic.{bytes_decides, nat_list_eq_equiv};
-ghost use Rattle.std.specs.Hash as fed;
-ghost use Rattle.std.specs.Str.{bytes_eq};
 ghost use Rattle.std.proofs.Common.{ap};
-ghost use Rattle.wat_tokens.specs.Index.{name_of, span_of, identifier, Idx, index_view, index};
-ghost use Rattle.wat_tokens.specs.Index.{at_index, begins_index, same_index, index_writes};
+ghost use Rattle.std.specs.Cmp.Lexicographic.{nat_list_eq_equiv, bytes_decides};
+ghost use Rattle.std.specs.Str.{bytes_eq};
+ghost use Rattle.wat_tokens.specs.Index.{name_of, span_of, identifier, IndexModel, index_view, index, at_index, begins_index, same_index, index_writes};
 ghost use Rattle.wat_tokens.specs.Laws.Index.{same_index_decides};
 ghost use Rattle.wat_tokens.specs.Lookup.{in_front};
 ghost use Rattle.wat_tokens.specs.Test.{at_id};
 ghost use Rattle.wat_tokens.specs.Tests.{begins_id};
 ghost use Rattle.wat_tokens.specs.Views.{plain};
+ghost use Rattle.std.specs.Hash as fed;
 
 use crate::cursor::Cursor;
 use crate::parser::Parser;
@@ -183,7 +182,7 @@ impl<'p> Peek for Id<'p> {
 /// `-` or is 2^32 or more. Returns Unexpected if the next token is neither an integer nor an
 /// identifier.
 impl<'a> Parse<'a> for Index<'a> {
-    ghost View = { Idx };
+    ghost View = { IndexModel };
 
     ghost view = { plain index_view };
 

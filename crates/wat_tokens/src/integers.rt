@@ -1,12 +1,9 @@
 //! Integers of any value, and numbers of 8, 16, 32 and 64 bits (Text Format, "Integers").
 
 ghost use Rattle.std.specs.Prelude.{List, ℕ, ℤ, IsTrue};
+ghost use Rattle.wat_tokens.specs.Prelude.{integer, unsigned, signed, Reads, at_integer, plain};
 ghost use Rattle.wat_lexer.specs.Integer.{text_of};
 ghost use Rattle.wat_lexer.specs.Number.{is_width};
-ghost use Rattle.wat_tokens.specs.Integers.{integer, unsigned, signed};
-ghost use Rattle.wat_tokens.specs.Reads.{Reads};
-ghost use Rattle.wat_tokens.specs.Test.{at_integer};
-ghost use Rattle.wat_tokens.specs.Views.{plain};
 
 use crate::cursor::Cursor;
 use crate::parser::Parser;

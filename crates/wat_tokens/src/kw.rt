@@ -1,10 +1,7 @@
 //! Keywords, each as a type that keeps the keyword's position. A type has the name of its keyword.
 
 ghost use Rattle.std.specs.Prelude.{◌≡◌, codes};
-ghost use Rattle.wat_tokens.specs.Parts.{word};
-ghost use Rattle.wat_tokens.specs.Place.{offset_of};
-ghost use Rattle.wat_tokens.specs.Test.{at_word};
-ghost use Rattle.wat_tokens.specs.Views.{plain};
+ghost use Rattle.wat_tokens.specs.Prelude.{word, offset_of, at_word, plain};
 
 use crate::cursor::Cursor;
 use crate::parser::Parser;

@@ -1,9 +1,7 @@
 //! Name annotations (Appendix, "Custom Sections and Annotations", "Name Annotations").
 
 ghost use Rattle.std.specs.Prelude.{◌≡◌, List, ℕ};
-ghost use Rattle.wat_tokens.specs.Lookup.{in_front};
-ghost use Rattle.wat_tokens.specs.NameAnnotation.{at_name, name_annotation, begins_name};
-ghost use Rattle.wat_tokens.specs.Views.{plain};
+ghost use Rattle.wat_tokens.specs.Prelude.{in_front, at_name, name_annotation, begins_name, plain};
 
 use crate::cursor::Cursor;
 use crate::parser::Parser;

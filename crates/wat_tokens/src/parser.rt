@@ -1,13 +1,7 @@
 //! The parser: a position in the tokens of a text, settings, and counts for contracts.
 
-ghost use Rattle.std.specs.Prelude.{◌≡◌, ◌≢◌, ◌+◌, ◌≤◌, List, [], ◌∷◌, length, drop, max, IfOk};
-ghost use Rattle.std.specs.Prelude.{None, IfErr, MatchBool};
-ghost use Rattle.wat_lexer.specs.Cut.{IsCut, FirstFault};
-ghost use Rattle.wat_lexer.specs.Integer.{text_of};
-ghost use Rattle.wat_lexer.specs.Place.{offset_of};
-ghost use Rattle.wat_lexer.specs.Sight.{visible_tokens, hidden_count};
-ghost use Rattle.wat_lexer.specs.Token.{Placed, LParen, RParen};
-ghost use Rattle.wat_lexer.specs.View.{toks, AreSkips};
+ghost use Rattle.std.specs.Prelude.{◌≡◌, ◌≢◌, ◌+◌, ◌≤◌, List, [], ◌∷◌, length, drop, max, IfOk, None, IfErr, MatchBool};
+ghost use Rattle.wat_lexer.specs.Prelude.{IsCut, FirstFault, text_of, offset_of, visible_tokens, hidden_count, Placed, LParen, RParen, entry_tokens, AreSkips};
 ghost use Rattle.wat_tokens.specs.Counts.{Carries, Quiet, SameSettings};
 ghost use Rattle.wat_tokens.specs.Lookup.{in_front, FirstIs};
 ghost use Rattle.wat_tokens.specs.Error.{Error};
@@ -15,10 +9,7 @@ ghost use Rattle.wat_tokens.specs.PartSpells.{one_reads};
 ghost use Rattle.wat_tokens.specs.Parts.{flag};
 ghost use Rattle.wat_tokens.specs.Reads.{Reads, Takes, Unmoved, BehindOne};
 ghost use Rattle.wat_tokens.specs.State.{begun, IsFresh};
-ghost use Rattle.wat_tokens.specs.Tests.{as_lparen, as_rparen, as_keyword, as_id, as_integer};
-ghost use Rattle.wat_tokens.specs.Tests.{as_string, word_only, annotation_only, begins_word};
-ghost use Rattle.wat_tokens.specs.Tests.{begins_lparen, begins_group, begins_annotation};
-ghost use Rattle.wat_tokens.specs.Tests.{none_left, ends, second};
+ghost use Rattle.wat_tokens.specs.Tests.{as_lparen, as_rparen, as_keyword, as_id, as_integer, as_string, word_only, annotation_only, begins_word, begins_lparen, begins_group, begins_annotation, none_left, ends, second};
 ghost use Rattle.wat_tokens.specs.Views.{plain};
 
 use crate::counter::Counter;
@@ -73,12 +64,12 @@ impl<'a> Model for Parser<'a> {
     ghost Value = { State };
 
     ghost use Rattle.wat_lexer.specs.Sight.{visible_tokens};
-    ghost use Rattle.wat_lexer.specs.View.{toks, AreSkips, IsNextVisible};
+    ghost use Rattle.wat_lexer.specs.View.{entry_tokens, AreSkips, IsNextVisible};
 
     ghost view = { λ p. record {
-      rest = toks (drop p.at p.tokens);
+      rest = entry_tokens (drop p.at p.tokens);
       left = visible_tokens p.known
-          (toks (drop p.at p.tokens));
+          (entry_tokens (drop p.at p.tokens));
       known = p.known;
       tracks = p.tracks;
       taken = p.taken.count;
@@ -113,7 +104,7 @@ impl<'a> Parser<'a> {
     /// known.
     fn over(alloc: Global, tokens: Tokens<'a>, end: usize) -> Parser<'a>
         requires { AreSkips tokens }
-        ensures { result ≡ begun (toks tokens.entry) }
+        ensures { result ≡ begun (entry_tokens tokens.entry) }
     {
         let front = next_visible(&tokens, 0, false);
         Parser {

@@ -1,16 +1,7 @@
 //! Lists of values, and lists of the parts of groups.
 
 ghost use Rattle.std.specs.Prelude.{◌≡◌, ◌≤◌, [], map, List, Bool};
-ghost use Rattle.wat_lexer.specs.Token.{Tok};
-ghost use Rattle.wat_tokens.specs.Cost.{Cost, tokens_alone};
-ghost use Rattle.wat_tokens.specs.Joined.{joined_behind};
-ghost use Rattle.wat_tokens.specs.Many.{after_front, Extends};
-ghost use Rattle.wat_tokens.specs.ManySpells.{many_reads};
-ghost use Rattle.wat_tokens.specs.Production.{Production};
-ghost use Rattle.wat_tokens.specs.Reads.{Call, ReadsAt};
-ghost use Rattle.wat_tokens.specs.Test.{run};
-ghost use Rattle.wat_tokens.specs.Tests.{more};
-ghost use Rattle.wat_tokens.specs.Views.{ViewOf, owning, no_items};
+ghost use Rattle.wat_tokens.specs.Prelude.{Token, Cost, tokens_alone, joined_behind, after_front, Extends, many_reads, Production, Call, ReadsAt, run, more, ViewOf, owning, no_items};
 
 use crate::ownership::push_into;
 use crate::parser::Parser;
@@ -32,7 +23,7 @@ pub trait Part<'a, V> {
     ghost grammar: { Production View };
 
     /// Whether the next tokens mean that one more part has to follow.
-    ghost follows: { List Tok → Bool };
+    ghost follows: { List Token → Bool };
 
     /// Returns whether one more part has to follow.
     fn follows(parser: &Parser<'a>) -> bool
@@ -77,7 +68,7 @@ pub trait Group<'a, V> {
     ghost grammar: { Production (List View) };
 
     /// Whether the next tokens mean that one more group has to follow.
-    ghost follows: { List Tok → Bool };
+    ghost follows: { List Token → Bool };
 
     /// Returns whether one more group has to follow.
     fn follows(parser: &Parser<'a>) -> bool

@@ -1,11 +1,9 @@
 //! Strings of bytes, and strings of UTF-8 (Text Format, "Strings" and "Names").
 
 ghost use Rattle.std.specs.Prelude.{◌≡◌, List, ℕ};
-ghost use Rattle.wat_tokens.specs.Lookup.{in_front};
-ghost use Rattle.wat_tokens.specs.Strings.{string, text};
+ghost use Rattle.wat_tokens.specs.Prelude.{in_front, string, text, plain};
 ghost use Rattle.wat_tokens.specs.Test.{at_string};
 ghost use Rattle.wat_tokens.specs.Tests.{begins_string};
-ghost use Rattle.wat_tokens.specs.Views.{plain};
 
 use crate::cursor::Cursor;
 use crate::parser::Parser;
@@ -50,7 +48,7 @@ impl<'a> Parse<'a> for &'a str {
 
     ghost grammar = { text };
 
-    #[tactic(auto, using(crate::proofs::Texts::is_text, crate::proofs::Texts::is_no_text))]
+    #[tactic(auto, using(crate::proofs::Texts::is_text, wat_lexer::specs::Laws::Bytes::not_utf8))]
     fn parse(parser: &mut Parser<'a>) -> Result<Self, Error> {
         let bytes = parser.take_string()?;
         match str::from_utf8(bytes) {

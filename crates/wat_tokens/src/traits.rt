@@ -77,7 +77,7 @@ impl<'a> Parser<'a> {
         // returns that value or Memory: `sound`, `accepts`, `refused`.
         ensures reads { ReadsPrefix T.view T.grammar result self.old self.new }
         // Only types that can hold a vector or a box return Memory.
-        ensures memory { IfErr result (λ e. e.fault ≡ Memory → T.view.may_own ≡ true) }
+        ensures memory { IfErr result (λ e. e.fault ≡ Memory → T.view.may_use_heap ≡ true) }
         // The tokens left are a suffix of the old ones, also on an error. The tokens taken are
         // counted: `end`, `position`, `taken`, `within`, `peak`, `grows`.
         ensures takes { TakesPrefix self.old self.new }

@@ -1,8 +1,7 @@
 //! Values that are a whole text.
 
 ghost use Rattle.std.specs.Prelude.{◌≡◌, IfOk, MatchResult};
-ghost use Rattle.wat_tokens.specs.Error.{Memory};
-ghost use Rattle.wat_tokens.specs.Whole.{TextSpells};
+ghost use Rattle.wat_tokens.specs.Prelude.{Memory, TextSpells};
 
 use crate::parser::Parser;
 use crate::traits::Parse;

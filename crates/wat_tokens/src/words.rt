@@ -1,23 +1,32 @@
 //! Values that keywords name.
 
-ghost use Rattle.std.specs.Prelude.{◌≡◌, ℕ, List};
-ghost use Rattle.wat_tokens.specs.Test.{run, at_listed};
-ghost use Rattle.wat_tokens.specs.Lookup.{in_front};
+ghost use Rattle.std.specs.Prelude.{◌≡◌, ℕ, List, Some};
+ghost use Rattle.wat_tokens.specs.Prelude.{run, at_listed, in_front, look_up, word_in};
 ghost use Rattle.wat_tokens.specs.Reads.{Takes};
-ghost use Rattle.wat_tokens.specs.Tests.{look_up, word_in};
 
 use crate::cursor::Cursor;
 use crate::parser::Parser;
 use wat_lexer::fault::{Error, Fault};
 
-/// A type with values that keywords name (Text Format, "Tokens"). Each keyword names one value.
+/// A type with values that keywords name (Text Format, "Tokens"). Each keyword names one value, and
+/// each value has one keyword.
 pub trait NamedByKeyword: Copy {
     /// Each keyword with the value that it names.
     ghost words: { List (List ℕ × Self) };
 
+    /// The keyword of a value.
+    ghost keyword: { Self → List ℕ };
+
+    /// Each value is what its keyword names.
+    ghost is_named: { (v : Self) → look_up words (keyword v) ≡ Some v };
+
     /// Returns the value that the keyword `word` names, or None if `word` names no value.
     fn named(word: &str) -> Option<Self>
         ensures { result ≡ look_up words word.now };
+
+    /// Returns the keyword that names the value.
+    fn word(self) -> &'static str
+        ensures { result.now ≡ keyword self };
 }
 
 /// Takes the next keyword, and returns the value that it names. Returns Unexpected, at the next

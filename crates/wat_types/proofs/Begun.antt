@@ -1,32 +1,27 @@
 -- If the next tokens begin no value type, no value type is read.
-use Rattle.std.proofs.lemmas.Bool.{or_parts}
-use Rattle.std.proofs.Common.{◌≡◌, ℕ, false, List, [], ◌∷◌, Option, Some, None, refl}
-use Rattle.std.specs.Prelude.{◌||◌, codes, is_some}
-use Rattle.wat_tokens.specs.Token.{Tok, Keyword}
-use Rattle.wat_tokens.specs.Tests.{word_in, look_up, begins_group}
-use Rattle.wat_tokens.specs.PartSpells.{one_reads, with_rest}
-use Rattle.wat_tokens.specs.Test.{run, at_listed}
-use Rattle.wat_types.specs.Reference.{at_shorthand, ref_type, shorthand, shorthand_words, begins_shorthand, begins_long_ref}
-use Rattle.wat_types.specs.Value.{at_plain, plain_words, val_type, begins_plain, begins_val}
+use Rattle.std.specs.Prelude.{◌≡◌, ℕ, false, List, [], ◌∷◌, Option, Some, None, refl, ◌||◌, codes, is_some}
+use Rattle.wat_types.specs.Prelude.{or_parts, Token, Keyword, word_in, look_up, begins_group, one_reads, with_rest, run, at_listed, at_shorthand, ref_type, shorthand, shorthand_words, plain_words, val_type}
+use Rattle.wat_types.specs.Reference.{begins_shorthand, begins_long_ref}
+use Rattle.wat_types.specs.Value.{at_plain, begins_plain, begins_val}
 
-none_known : {A : Type 0} (o : Option A) (r : List Tok) → is_some o ≡ false → with_rest o r ≡ None
+none_known : {A : Type 0} (o : Option A) (r : List Token) → is_some o ≡ false → with_rest o r ≡ None
 none_known (Some v) r e = absurd cc
 none_known None r e = refl
 
-no_word : {A : Type 0} (table : List (List ℕ × A)) (t : List Tok) → run (at_listed table) t ≡ false → one_reads (word_in table) t ≡ None
+no_word : {A : Type 0} (table : List (List ℕ × A)) (t : List Token) → run (at_listed table) t ≡ false → one_reads (word_in table) t ≡ None
 no_word table [] e = refl
 no_word table (Keyword w ∷ t) e = none_known (look_up table w) t e
 no_word table (_ ∷ t) e = refl
 
-no_shorthand : (t : List Tok) → begins_shorthand t ≡ false → shorthand.reads t ≡ None
+no_shorthand : (t : List Token) → begins_shorthand t ≡ false → shorthand.reads t ≡ None
 unfolding shorthand at_shorthand
 no_shorthand t e = rw (no_word shorthand_words t e) refl
 
-no_reference : (t : List Tok) → begins_shorthand t ≡ false → begins_long_ref t ≡ false → ref_type.reads t ≡ None
+no_reference : (t : List Token) → begins_shorthand t ≡ false → begins_long_ref t ≡ false → ref_type.reads t ≡ None
 unfolding ref_type
 no_reference t e f = rw ((or_parts (begins_group (codes "ref") t) (begins_group (codes "shared") t) f).0, (or_parts (begins_group (codes "ref") t) (begins_group (codes "shared") t) f).1, no_shorthand t e) refl
 
-pub no_value_type : (t : List Tok) → begins_val t ≡ false → val_type.reads t ≡ None
+pub no_value_type : (t : List Token) → begins_val t ≡ false → val_type.reads t ≡ None
 unfolding val_type at_plain
 no_value_type t e =
     let long = (or_parts (begins_plain t) (begins_shorthand t || begins_long_ref t) e).1 in

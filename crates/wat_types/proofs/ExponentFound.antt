@@ -1,8 +1,6 @@
 -- The result of the search for an exponent.
-use Rattle.std.specs.Prelude.{◌≡◌, ◌≢◌, ℕ, ◌*◌, ◌^◌, ◌<◌, ◌≤◌, ◌==◌, None, refl}
-use Rattle.std.proofs.Common.{sym, ◌∙◌}
-use Rattle.wat_tokens.specs.Laws.Production.{by_test}
-use Rattle.wat_types.specs.Exponent.{exponent}
+use Rattle.std.proofs.Common.{◌≡◌, ◌≢◌, ℕ, ◌*◌, ◌^◌, ◌<◌, ◌≤◌, ◌==◌, None, refl, sym, ◌∙◌}
+use Rattle.wat_types.specs.Prelude.{by_test, exponent}
 use Rattle.wat_types.specs.Laws.Exponent.{equal, exponent_is}
 
 pub exponent_of_other : (n k : ℕ) → 2 ^ k ≤ n → n < 2 * 2 ^ k → 2 ^ k ≢ n → exponent n ≡ None

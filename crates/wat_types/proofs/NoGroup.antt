@@ -1,16 +1,8 @@
 -- A group that begins with none of the other words can only have the last form.
 use Rattle.std.specs.Prelude.{◌≡◌, ℕ, true, false, List, [], ◌∷◌, None, codes, refl}
-use Rattle.wat_tokens.specs.Production.{Production}
-use Rattle.wat_tokens.specs.Token.{Tok, LParen, Keyword}
-use Rattle.wat_tokens.specs.Tests.{begins_lparen, begins_group}
-use Rattle.wat_tokens.specs.Groups.{group}
-use Rattle.wat_tokens.specs.Parts.{made}
-use Rattle.wat_tokens.specs.Index.{begins_index}
-use Rattle.wat_tokens.specs.Laws.Production.{by_test}
-use Rattle.wat_types.specs.Heap.{abstract_, abstract_heap_type, heap_type}
-use Rattle.wat_types.specs.Reference.{short, shorthand, ref_type}
+use Rattle.wat_types.specs.Prelude.{Production, Token, LParen, Keyword, begins_lparen, begins_group, group, made, begins_index, by_test, abstract_, abstract_heap_type, heap_type, short, shorthand, ref_type}
 
-no_group : {A : Type 0} (w : List ℕ) (g : Production A) (t : List Tok) → begins_group w t ≡ false → (group w g).reads t ≡ None
+no_group : {A : Type 0} (w : List ℕ) (g : Production A) (t : List Token) → begins_group w t ≡ false → (group w g).reads t ≡ None
 no_group w g [] e = refl
 no_group w g (LParen ∷ []) e = refl
 no_group w g (LParen ∷ Keyword k ∷ t) e = rw e refl
@@ -19,7 +11,7 @@ no_group w g (_ ∷ t) e = refl
 
 -- ---- heap types
 
-pub shared_heap : (t : List Tok) → begins_lparen t ≡ true → begins_index t ≡ false → begins_group (codes "exact") t ≡ false
+pub shared_heap : (t : List Token) → begins_lparen t ≡ true → begins_index t ≡ false → begins_group (codes "exact") t ≡ false
     → heap_type.reads t ≡ (made (λ a. abstract_ true a) (group (codes "shared") abstract_heap_type)).reads t
 unfolding heap_type abstract_heap_type
 shared_heap [] o i e = absurd cc
@@ -28,7 +20,7 @@ shared_heap (_ ∷ t) o i e = absurd cc
 
 -- ---- reference types
 
-pub shared_ref : (t : List Tok) → begins_lparen t ≡ true → begins_group (codes "ref") t ≡ false
+pub shared_ref : (t : List Token) → begins_lparen t ≡ true → begins_group (codes "ref") t ≡ false
     → ref_type.reads t ≡ (made (short true) (group (codes "shared") shorthand)).reads t
 unfolding ref_type shorthand
 shared_ref [] o e = absurd cc

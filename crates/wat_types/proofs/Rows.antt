@@ -1,37 +1,16 @@
 -- Sample texts as tokens, and the types that are read from them.
-use Rattle.std.proofs.Common.{◌≡◌, List, [], ◌∷◌, ◌++◌, Some, refl}
-use Rattle.std.specs.Prelude.{codes}
-use Rattle.wat_tokens.specs.Token.{Tok, RParen, Keyword, Integer}
-use Rattle.wat_tokens.specs.NameAnnotation.{name_annotation}
-use Rattle.wat_tokens.specs.Spelled.{in_parens, Spelled}
-use Rattle.wat_tokens.specs.Laws.Spelled.{spelled_whole}
-use Rattle.wat_tokens.specs.ManySpells.{many_at, many_reads}
-use Rattle.wat_tokens.specs.Number.{read}
-use Rattle.wat_types.specs.Define.{kind, linked, described, maybe_shared, type_def, type_}
-use Rattle.wat_types.specs.Exponent.{exponent}
-use Rattle.wat_types.specs.Function.{function_type, function_groups}
-use Rattle.wat_types.specs.FunctionSpells.{func_groups}
-use Rattle.wat_types.specs.Group.{plain_params, params, func_group}
-use Rattle.wat_types.specs.Label.{label}
-use Rattle.wat_types.specs.Limits.{is_64, limits_type, page_exponent, pagesize, pagesize_or_none}
-use Rattle.wat_types.specs.Reference.{shorthand, ref_type}
+use Rattle.std.specs.Prelude.{◌≡◌, List, [], ◌∷◌, ◌++◌, Some, refl, codes}
+use Rattle.wat_types.specs.Prelude.{Token, RParen, Keyword, Integer, name_annotation, in_parens, Spelled, spelled_whole, many_at, many_reads, read, kind, linked, described, maybe_shared, type_def, type_, exponent, function_type, function_groups, func_groups, plain_params, params, func_group, label, is_64, limits_type, page_exponent, pagesize, pagesize_or_none, shorthand, ref_type, storage_type, global_type, plain_members, members, member_group, field_type, struct_type, type_use, val_type, at_func}
 use Rattle.wat_types.specs.Rows.{PageSizes, Globals, LongLimits, FinalSub, OpenSub, Structure, Described, Uses}
-use Rattle.wat_types.specs.Storage.{storage_type, global_type}
-use Rattle.wat_types.specs.Struct.{plain_members, members, member_group}
-use Rattle.wat_types.specs.FieldType.{field_type}
-use Rattle.wat_types.specs.StructType.{struct_type}
-use Rattle.wat_types.specs.Use.{type_use}
-use Rattle.wat_types.specs.Value.{val_type}
-use Rattle.wat_types.specs.Group.{at_func}
 
-abbrev text_64k : List Tok
+abbrev text_64k : List Token
 text_64k = Integer (codes "65536") ∷ []
 
 exponent_64k : page_exponent.reads (text_64k ++ RParen ∷ []) ≡ Some (16, RParen ∷ [])
 unfolding page_exponent read
 exponent_64k = page_exponent.complete 16 text_64k (RParen ∷ []) (65536, (Integer (codes "65536"), refl, refl), refl)
 
-abbrev page_text_64k : List Tok
+abbrev page_text_64k : List Token
 page_text_64k = in_parens (Keyword (codes "pagesize") ∷ text_64k)
 
 page_of_64k : Spelled pagesize_or_none page_text_64k (Some 16)

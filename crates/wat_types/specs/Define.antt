@@ -1,50 +1,42 @@
 -- Type definitions, and recursion groups.
 use Rattle.std.specs.Prelude.{ℕ, Bool, true, false, ◌&&◌, List, [], codes, Option, Some, None, map}
 use Rattle.std.proofs.Common.{lit≤}
-use Rattle.wat_tokens.specs.Token.{Tok}
-use Rattle.wat_tokens.specs.Production.{Production}
-use Rattle.wat_tokens.specs.Parts.{seq, made, where_else, opt, flag, after_word}
-use Rattle.wat_tokens.specs.Many.{many}
-use Rattle.wat_tokens.specs.Groups.{paren, turn}
-use Rattle.wat_tokens.specs.Index.{Idx, index_view, index}
-use Rattle.wat_tokens.specs.Views.{no_items, option_view}
+use Rattle.wat_tokens.specs.Prelude.{Token, Production, seq, made, where_else, opt, flag, after_word, many, paren, turn, IndexModel, index_view, index, no_items, option_view, Test, at_word, run, at_index}
 use Rattle.wat_types.specs.Label.{Label, label_view, label}
-use Rattle.wat_types.specs.Group.{FuncTy}
-use Rattle.wat_types.specs.Function.{function_view, bare_function, function_type}
-use Rattle.wat_types.specs.Struct.{array_view, MemberTy, struct_view}
+use Rattle.wat_types.specs.Group.{FunctionTypeModel}
+use Rattle.wat_types.specs.Function.{function_view, heapless_function, function_type}
+use Rattle.wat_types.specs.Struct.{array_view, StructFieldModel, struct_view}
 use Rattle.wat_types.specs.declared.define.InnerTypeKind.{InnerTypeKind}
-use Rattle.wat_types.specs.declared.define.InnerTypeKind.TheVariants as code
 use Rattle.wat_types.specs.declared.define.TypeDef.{TypeDef}
-use Rattle.wat_types.specs.declared.define.«Type».{«Type»}
-use Rattle.wat_types.specs.FieldType.{FieldTy, field_type}
+use Rattle.wat_types.specs.FieldType.{FieldTypeModel, field_type}
 use Rattle.wat_types.specs.StructType.{struct_type}
-use Rattle.wat_tokens.specs.Test.{Test, at_word, run}
-use Rattle.wat_tokens.specs.Index.{at_index}
+use Rattle.wat_types.specs.declared.define.InnerTypeKind.TheVariants as code
+use Rattle.wat_types.specs.declared.define.«Type».{«Type»}
 
 -- ---- composite types
 
 -- a function type, a structure type, an array type or a continuation type
-pub data InnerKindTy : Type 0 where
-  func : FuncTy → InnerKindTy
-  struct_ : List MemberTy → InnerKindTy
-  array : FieldTy → InnerKindTy
-  cont : Idx → InnerKindTy
+pub data InnerTypeKindModel : Type 0 where
+  func : FunctionTypeModel → InnerTypeKindModel
+  struct_ : List StructFieldModel → InnerTypeKindModel
+  array : FieldTypeModel → InnerTypeKindModel
+  cont : IndexModel → InnerTypeKindModel
 
-abbrev pub inner_kind_view : InnerTypeKind → InnerKindTy
+abbrev pub inner_kind_view : InnerTypeKind → InnerTypeKindModel
 inner_kind_view (code.Func f) = func (function_view f)
 inner_kind_view (code.Struct s) = struct_ (struct_view s)
 inner_kind_view (code.Array a) = array (array_view a)
 inner_kind_view (code.Cont c) = cont (index_view c.0)
 
 -- has no parameter, no result and no field
-abbrev pub bare_inner_kind : InnerKindTy → Bool
-bare_inner_kind (func f) = bare_function f
-bare_inner_kind (struct_ ms) = no_items ms
-bare_inner_kind (array f) = true
-bare_inner_kind (cont i) = true
+abbrev pub heapless_inner_kind : InnerTypeKindModel → Bool
+heapless_inner_kind (func f) = heapless_function f
+heapless_inner_kind (struct_ ms) = no_items ms
+heapless_inner_kind (array f) = true
+heapless_inner_kind (cont i) = true
 
 -- `func` FunctionType | `struct` StructType | `array` ArrayType | `cont` ContType
-unfoldable pub kind : Production InnerKindTy
+unfoldable pub kind : Production InnerTypeKindModel
 kind =
     where_else (at_word (codes "func")) (made func (after_word (codes "func") function_type))
     (where_else (at_word (codes "struct"))
@@ -55,15 +47,15 @@ kind =
 -- ---- definitions
 
 -- a type definition, without positions
-pub record DefTy : Type 0 where
-  pub kind : InnerKindTy
+pub record TypeDefModel : Type 0 where
+  pub kind : InnerTypeKindModel
   pub shared : Bool
-  pub parents : List Idx
-  pub descriptor : Option Idx
-  pub describes : Option Idx
+  pub parents : List IndexModel
+  pub descriptor : Option IndexModel
+  pub describes : Option IndexModel
   pub final_type : Option Bool
 
-abbrev pub def_view : TypeDef → DefTy
+abbrev pub def_view : TypeDef → TypeDefModel
 def_view d =
     record {
       kind = inner_kind_view d.kind;
@@ -77,14 +69,14 @@ def_view d =
     }
 
 -- has no supertype, no parameter, no result and no field
-abbrev pub bare_def : DefTy → Bool
-bare_def d = no_items d.parents && bare_inner_kind d.kind
+abbrev pub heapless_def : TypeDefModel → Bool
+heapless_def d = no_items d.parents && heapless_inner_kind d.kind
 
 -- the word, an index and `) (`; no tokens if the word isn't next
-unfoldable pub linked : List ℕ → Production (Option Idx)
+unfoldable pub linked : List ℕ → Production (Option IndexModel)
 linked w = opt (at_word w) (after_word w (made (λ v. v.0) (seq index turn)))
 
-abbrev pub plain_def : Option Idx × (Option Idx × InnerKindTy) → DefTy
+abbrev pub plain_def : Option IndexModel × (Option IndexModel × InnerTypeKindModel) → TypeDefModel
 plain_def v =
     record {
       kind = v.1.1;
@@ -96,24 +88,24 @@ plain_def v =
     }
 
 -- (`describes` idx `) (`)?, then (`descriptor` idx `) (`)?, then InnerTypeKind
-unfoldable pub described : Production DefTy
+unfoldable pub described : Production TypeDefModel
 described =
     made plain_def (seq (linked (codes "describes")) (seq (linked (codes "descriptor")) kind))
 
-abbrev pub shared_def : DefTy → DefTy
+abbrev pub shared_def : TypeDefModel → TypeDefModel
 shared_def d = record d { shared = true }
 
 -- `shared (` K `)` | K
-unfoldable pub maybe_shared : Production DefTy
+unfoldable pub maybe_shared : Production TypeDefModel
 maybe_shared =
     where_else (at_word (codes "shared"))
     (made shared_def (after_word (codes "shared") (paren described))) described
 
-abbrev pub sub_def : Bool × (List Idx × DefTy) → DefTy
+abbrev pub sub_def : Bool × (List IndexModel × TypeDefModel) → TypeDefModel
 sub_def v = record v.1.1 { parents = v.1.0; final_type = Some v.0 }
 
 -- `sub final? idx* (` S `)` | S
-unfoldable pub type_def : Production DefTy
+unfoldable pub type_def : Production TypeDefModel
 type_def =
     where_else (at_word (codes "sub"))
     (made sub_def (after_word (codes "sub")
@@ -123,29 +115,29 @@ type_def =
 -- ---- types and recursion groups
 
 -- a type definition with its identifier and its name
-pub record TypeTy : Type 0 where
+pub record TypeModel : Type 0 where
   pub label : Label
-  pub def : DefTy
+  pub def : TypeDefModel
 
-abbrev pub type_view : «Type» → TypeTy
+abbrev pub type_view : «Type» → TypeModel
 type_view t = record { label = label_view t.id t.name; def = def_view t.def }
 
-abbrev pub bare_type : TypeTy → Bool
-bare_type t = bare_def t.def
+abbrev pub heapless_type : TypeModel → Bool
+heapless_type t = heapless_def t.def
 
 -- `type id? name? (` TypeDef `)`
-unfoldable pub type_ : Production TypeTy
+unfoldable pub type_ : Production TypeModel
 type_ = made (λ v. record { label = v.0; def = v.1 })
     (after_word (codes "type") (seq label (paren type_def)))
 
 abbrev pub at_type : Test
 at_type = at_word (codes "type")
 
-abbrev pub begins_type : List Tok → Bool
+abbrev pub begins_type : List Token → Bool
 begins_type t = run at_type t
 
-abbrev pub types_view : List «Type» → List TypeTy
+abbrev pub types_view : List «Type» → List TypeModel
 types_view ts = map type_view ts
 
-abbrev pub grouped_type : Production TypeTy
+abbrev pub grouped_type : Production TypeModel
 grouped_type = paren type_

@@ -1,20 +1,17 @@
 -- Field types.
 use Rattle.std.specs.Prelude.{Bool, true, false, codes}
-use Rattle.wat_tokens.specs.Production.{Production}
-use Rattle.wat_tokens.specs.Parts.{made, where_else}
-use Rattle.wat_tokens.specs.Groups.{group}
-use Rattle.wat_types.specs.Storage.{StorageTy, storage_type}
-use Rattle.wat_tokens.specs.Test.{second_word}
+use Rattle.wat_tokens.specs.Prelude.{Production, made, where_else, group, second_word}
+use Rattle.wat_types.specs.Storage.{StorageTypeModel, storage_type}
 
-pub record FieldTy : Type 0 where
+pub record FieldTypeModel : Type 0 where
   pub mutable : Bool
-  pub ty : StorageTy
+  pub ty : StorageTypeModel
 
-abbrev pub field_of : Bool → StorageTy → FieldTy
+abbrev pub field_of : Bool → StorageTypeModel → FieldTypeModel
 field_of m t = record { mutable = m; ty = t }
 
 -- ( mut StorageType ) if the second token is `mut`; else StorageType
-unfoldable pub field_type : Production FieldTy
+unfoldable pub field_type : Production FieldTypeModel
 field_type =
     where_else (second_word (codes "mut"))
     (made (field_of true) (group (codes "mut") storage_type))

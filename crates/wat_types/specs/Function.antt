@@ -1,13 +1,11 @@
 -- Function types.
 use Rattle.std.specs.Prelude.{Bool, true, ◌&&◌, List, Option, map}
-use Rattle.wat_tokens.specs.Production.{Production}
-use Rattle.wat_tokens.specs.Restated.{restated}
-use Rattle.wat_tokens.specs.Views.{no_items}
+use Rattle.wat_tokens.specs.Prelude.{Production, restated, no_items}
 use Rattle.wat_tokens.specs.declared.index.Id.{Id}
 use Rattle.wat_tokens.specs.declared.name_annotation.NameAnnotation.{NameAnnotation}
 use Rattle.wat_types.specs.Value.{val_view}
 use Rattle.wat_types.specs.Label.{label_view}
-use Rattle.wat_types.specs.Group.{ParamTy, FuncTy}
+use Rattle.wat_types.specs.Group.{ParamModel, FunctionTypeModel}
 use Rattle.wat_types.specs.declared.function.FunctionType.{FunctionType}
 use Rattle.wat_types.specs.declared.function.FunctionTypeNoNames.{FunctionTypeNoNames}
 use Rattle.wat_types.specs.declared.value.ValType.{ValType}
@@ -16,30 +14,30 @@ use Rattle.wat_types.specs.Laws.FunctionSpells.{function_to, function_from}
 
 -- ---- views
 
-abbrev pub param_view : Option Id × Option NameAnnotation × ValType → ParamTy
+abbrev pub param_view : Option Id × Option NameAnnotation × ValType → ParamModel
 param_view p = record { label = label_view p.0 p.1; ty = val_view p.2 }
 
-abbrev pub params_view : List (Option Id × Option NameAnnotation × ValType) → List ParamTy
+abbrev pub params_view : List (Option Id × Option NameAnnotation × ValType) → List ParamModel
 params_view ps = map param_view ps
 
-abbrev pub function_view : FunctionType → FuncTy
+abbrev pub function_view : FunctionType → FunctionTypeModel
 function_view f =
     record { params = params_view f.params.items; results = map val_view f.results.items }
 
-abbrev pub unnamed_view : FunctionTypeNoNames → FuncTy
+abbrev pub unnamed_view : FunctionTypeNoNames → FunctionTypeModel
 unnamed_view f = function_view f.0
 
 -- has no parameter and no result
-abbrev pub bare_function : FuncTy → Bool
-bare_function f = no_items f.params && no_items f.results
+abbrev pub heapless_function : FunctionTypeModel → Bool
+heapless_function f = no_items f.params && no_items f.results
 
 -- ---- the grammar
 
-unfoldable pub function_groups : Bool → Production FuncTy
+unfoldable pub function_groups : Bool → Production FunctionTypeModel
 function_groups labels =
     restated (function_tested labels) (FunctionSpells labels) (function_to labels)
     (function_from labels)
 
 -- parameter and result groups; a parameter may have an identifier or a name
-abbrev pub function_type : Production FuncTy
+abbrev pub function_type : Production FunctionTypeModel
 function_type = function_groups true

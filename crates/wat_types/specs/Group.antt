@@ -1,49 +1,42 @@
 -- The groups of a function type, and their order.
-use Rattle.std.specs.Prelude.{Bool, true, not, ◌&&◌, ◌||◌, List, [], ◌∷◌, codes, flat_map, AllPairs}
-use Rattle.std.specs.Prelude.{⊤}
-use Rattle.wat_tokens.specs.Token.{Tok}
-use Rattle.wat_tokens.specs.Tests.{begins_word}
-use Rattle.wat_tokens.specs.Production.{Production}
-use Rattle.wat_tokens.specs.Parts.{seq, made, where_else}
-use Rattle.wat_tokens.specs.Many.{many}
-use Rattle.wat_tokens.specs.Groups.{group}
-use Rattle.wat_types.specs.Value.{ValTy, val_type}
-use Rattle.wat_types.specs.Label.{Label, no_label, labelled, label}
+use Rattle.std.specs.Prelude.{AllPairs, Bool, true, not, ◌&&◌, ◌||◌, List, [], ◌∷◌, codes, flat_map, ⊤}
+use Rattle.wat_tokens.specs.Prelude.{Token, begins_word, Production, seq, made, where_else, many, group, Test, either_test, at_group, at_more, second_word, run}
+use Rattle.wat_tokens.specs.Test.{if_test}
+use Rattle.wat_types.specs.Value.{ValTypeModel, val_type}
+use Rattle.wat_types.specs.Label.{Label, no_label, labelled, label, at_label}
 use Rattle.wat_types.specs.Laws.Value.{val_type_consumes}
-use Rattle.wat_tokens.specs.Test.{Test, either_test, if_test, at_group, at_more, second_word, run}
-use Rattle.wat_types.specs.Label.{at_label}
 
 -- a parameter with its label
-pub record ParamTy : Type 0 where
+pub record ParamModel : Type 0 where
   pub label : Label
-  pub ty : ValTy
+  pub ty : ValTypeModel
 
-abbrev pub labelled_param : Label × ValTy → List ParamTy
+abbrev pub labelled_param : Label × ValTypeModel → List ParamModel
 labelled_param v = record { label = v.0; ty = v.1 } ∷ []
 
-abbrev pub plain_param : ValTy → ParamTy
+abbrev pub plain_param : ValTypeModel → ParamModel
 plain_param t = record { label = no_label; ty = t }
 
-abbrev pub plain_param_only : Production ParamTy
+abbrev pub plain_param_only : Production ParamModel
 plain_param_only = made plain_param val_type
 
 -- ValType*
-unfoldable pub plain_params : Production (List ParamTy)
+unfoldable pub plain_params : Production (List ParamModel)
 plain_params = many at_more plain_param_only val_type_consumes
 
 -- id? name? ValType if labels are allowed and a label begins; else ValType*
-unfoldable pub params : Bool → Production (List ParamTy)
+unfoldable pub params : Bool → Production (List ParamModel)
 params labels =
     where_else (if_test labels at_label) (made labelled_param (seq label val_type))
     plain_params
 
 -- ValType*
-unfoldable pub val_types : Production (List ValTy)
+unfoldable pub val_types : Production (List ValTypeModel)
 val_types = many at_more val_type val_type_consumes
 
 pub data Group : Type 0 where
-  param : List ParamTy → Group
-  result : List ValTy → Group
+  param : List ParamModel → Group
+  result : List ValTypeModel → Group
 
 -- ( param ) | ( param id? name? ValType ), with an id or a name | ( param ValType* ) | ( result
 -- ValType* )
@@ -53,51 +46,51 @@ func_group labels =
     (made result (group (codes "result") val_types))
 
 -- `param` or `result`
-abbrev pub begins_group_word : List Tok → Bool
+abbrev pub begins_group_word : List Token → Bool
 begins_group_word t = begins_word (codes "param") t || begins_word (codes "result") t
 
 -- one more group has to follow: the second token is `param` or `result`, for any first token
 abbrev pub at_next_group : Test
 at_next_group = either_test (second_word (codes "param")) (second_word (codes "result"))
 
-abbrev pub group_follows : List Tok → Bool
+abbrev pub group_follows : List Token → Bool
 group_follows t = run at_next_group t
 
 -- a function type begins: `(` and `param` or `result`
 abbrev pub at_func : Test
 at_func = either_test (at_group (codes "param")) (at_group (codes "result"))
 
-abbrev pub begins_func : List Tok → Bool
+abbrev pub begins_func : List Token → Bool
 begins_func t = run at_func t
 
 -- no parameter has a label
-abbrev pub unlabelled : List ParamTy → Bool
+abbrev pub unlabelled : List ParamModel → Bool
 unlabelled [] = true
 unlabelled (p ∷ ps) = not (labelled p.label) && unlabelled ps
 
 -- ---- all groups together
 
 -- a function type, without positions
-pub record FuncTy : Type 0 where
-  pub params : List ParamTy
-  pub results : List ValTy
+pub record FunctionTypeModel : Type 0 where
+  pub params : List ParamModel
+  pub results : List ValTypeModel
 
-abbrev pub function_of : List ParamTy → List ValTy → FuncTy
+abbrev pub function_of : List ParamModel → List ValTypeModel → FunctionTypeModel
 function_of ps rs = record { params = ps; results = rs }
 
-abbrev pub empty_function : FuncTy
+abbrev pub empty_function : FunctionTypeModel
 empty_function = function_of [] []
 
-abbrev pub params_in : Group → List ParamTy
+abbrev pub params_in : Group → List ParamModel
 params_in (param ps) = ps
 params_in (result rs) = []
 
-abbrev pub results_in : Group → List ValTy
+abbrev pub results_in : Group → List ValTypeModel
 results_in (param ps) = []
 results_in (result rs) = rs
 
 -- the parameters and the results of all groups, concatenated in order
-abbrev pub merged : List Group → FuncTy
+abbrev pub merged : List Group → FunctionTypeModel
 merged gs = function_of (flat_map params_in gs) (flat_map results_in gs)
 
 -- a result group with a type can't come before a param group

@@ -1,17 +1,10 @@
 -- Heap types.
 use Rattle.std.specs.Prelude.{ℕ, Bool, true, false, List, [], ◌∷◌, codes, refl}
-use Rattle.wat_tokens.specs.Token.{Tok}
-use Rattle.wat_tokens.specs.Tests.{word_in}
-use Rattle.wat_tokens.specs.Production.{Production}
-use Rattle.wat_tokens.specs.Parts.{one, made, where_else}
-use Rattle.wat_tokens.specs.Groups.{group}
-use Rattle.wat_tokens.specs.Index.{Idx, index_view, index}
+use Rattle.wat_tokens.specs.Prelude.{Token, word_in, Production, one, made, where_else, group, IndexModel, index_view, index, Test, run, either_test, at_group, at_listed, at_index}
 use Rattle.wat_types.specs.declared.heap.AbstractHeapType.{AbstractHeapType}
-use Rattle.wat_types.specs.declared.heap.AbstractHeapType.TheVariants as word
 use Rattle.wat_types.specs.declared.heap.HeapType.{HeapType}
+use Rattle.wat_types.specs.declared.heap.AbstractHeapType.TheVariants as word
 use Rattle.wat_types.specs.declared.heap.HeapType.TheVariants as code
-use Rattle.wat_tokens.specs.Test.{Test, run, either_test, at_group, at_listed}
-use Rattle.wat_tokens.specs.Index.{at_index}
 
 -- ---- abstract heap types
 
@@ -50,24 +43,21 @@ abstract_heap_type = one (word_in abstract_words) (refl, refl)
 unfoldable pub at_abstract : Test
 at_abstract = at_listed abstract_words
 
-abbrev pub begins_abstract : List Tok → Bool
-begins_abstract t = run at_abstract t
-
 -- ---- heap types
 
 -- a heap type, without the positions of indices
-pub data HeapTy : Type 0 where
-  concrete : Idx → HeapTy
-  exact : Idx → HeapTy
-  abstract_ : Bool → AbstractHeapType → HeapTy
+pub data HeapTypeModel : Type 0 where
+  concrete : IndexModel → HeapTypeModel
+  exact : IndexModel → HeapTypeModel
+  abstract_ : Bool → AbstractHeapType → HeapTypeModel
 
-abbrev pub heap_view : HeapType → HeapTy
+abbrev pub heap_view : HeapType → HeapTypeModel
 heap_view (code.Abstract shared t) = abstract_ shared t
 heap_view (code.Concrete i) = concrete (index_view i)
 heap_view (code.Exact i) = exact (index_view i)
 
 -- idx | ( exact idx ) | ( shared abstract ) | abstract
-unfoldable pub heap_type : Production HeapTy
+unfoldable pub heap_type : Production HeapTypeModel
 heap_type =
     where_else at_index (made concrete index)
     (where_else (at_group (codes "exact")) (made exact (group (codes "exact") index))
@@ -80,5 +70,5 @@ abbrev pub at_heap : Test
 at_heap =
     either_test at_abstract (either_test (at_group (codes "shared")) (at_group (codes "type")))
 
-abbrev pub begins_heap : List Tok → Bool
+abbrev pub begins_heap : List Token → Bool
 begins_heap t = run at_heap t

@@ -1,15 +1,8 @@
 -- Labels: an identifier, and a name from a name annotation.
 use Rattle.std.specs.Prelude.{ℕ, Bool, ◌||◌, List, Option, None, is_some}
-use Rattle.wat_tokens.specs.Token.{Tok}
-use Rattle.wat_tokens.specs.Production.{Production}
-use Rattle.wat_tokens.specs.Parts.{seq, made, opt}
-use Rattle.wat_tokens.specs.Index.{name_of, identifier}
-use Rattle.wat_tokens.specs.NameAnnotation.{name_annotation}
-use Rattle.wat_tokens.specs.Views.{option_view}
+use Rattle.wat_tokens.specs.Prelude.{Token, Production, seq, made, opt, name_of, identifier, name_annotation, option_view, Test, run, either_test, at_id, at_name}
 use Rattle.wat_tokens.specs.declared.index.Id.{Id}
 use Rattle.wat_tokens.specs.declared.name_annotation.NameAnnotation.{NameAnnotation}
-use Rattle.wat_tokens.specs.Test.{Test, run, either_test, at_id}
-use Rattle.wat_tokens.specs.NameAnnotation.{at_name}
 
 pub record Label : Type 0 where
   pub id : Option (List ℕ)
@@ -37,5 +30,5 @@ label = made (λ v. label_of v.0 v.1)
 abbrev pub at_label : Test
 at_label = either_test at_id at_name
 
-abbrev pub begins_label : List Tok → Bool
+abbrev pub begins_label : List Token → Bool
 begins_label t = run at_label t

@@ -6,6 +6,7 @@ pub mod Function
 pub mod FunctionSpells
 pub mod Group
 pub mod Limits
+pub mod Named
 pub mod Order
 pub mod Struct
 pub mod Unlabelled

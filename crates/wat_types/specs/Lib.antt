@@ -32,3 +32,4 @@ pub mod StructType
 pub mod Tag
 pub mod Use
 pub mod Value
+pub mod Prelude

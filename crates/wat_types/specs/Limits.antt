@@ -1,17 +1,12 @@
 -- Limits, page sizes, table types and memory types.
 use Rattle.std.specs.Prelude.{ℕ, Bool, true, false, codes, Option}
-use Rattle.wat_tokens.specs.Production.{Production}
-use Rattle.wat_tokens.specs.Parts.{word, seq, made, where_else, opt, flag}
-use Rattle.wat_tokens.specs.Groups.{group}
-use Rattle.wat_tokens.specs.Integers.{unsigned}
-use Rattle.wat_tokens.specs.Restated.{restated}
-use Rattle.wat_types.specs.Reference.{RefTy, ref_view, ref_type}
+use Rattle.wat_tokens.specs.Prelude.{Production, word, seq, made, where_else, opt, flag, group, unsigned, restated, at_word, at_group, at_integer}
+use Rattle.wat_types.specs.Reference.{RefTypeModel, ref_view, ref_type}
 use Rattle.wat_types.specs.declared.limits.Limits.{Limits}
 use Rattle.wat_types.specs.declared.limits.MemoryType.{MemoryType}
 use Rattle.wat_types.specs.declared.limits.TableType.{TableType}
 use Rattle.wat_types.specs.PageSize.{ExponentSpells, exponent_tested}
 use Rattle.wat_types.specs.Laws.Limits.{exponent_to, exponent_from}
-use Rattle.wat_tokens.specs.Test.{at_word, at_group, at_integer}
 
 -- ---- limits
 
@@ -44,19 +39,19 @@ pagesize_or_none = opt (at_group (codes "pagesize")) pagesize
 -- ---- table types
 
 -- a table type, without the positions of indices
-pub record TableTy : Type 0 where
+pub record TableTypeModel : Type 0 where
   pub limits : Limits
-  pub elem : RefTy
+  pub elem : RefTypeModel
   pub shared : Bool
 
-abbrev pub table_type_view : TableType → TableTy
+abbrev pub table_type_view : TableType → TableTypeModel
 table_type_view t = record { limits = t.limits; elem = ref_view t.elem; shared = t.shared }
 
-abbrev pub table_type_of : Bool × (Limits × RefTy) → TableTy
+abbrev pub table_type_of : Bool × (Limits × RefTypeModel) → TableTypeModel
 table_type_of v = record { shared = v.0; limits = v.1.0; elem = v.1.1 }
 
 -- shared? Limits RefType
-unfoldable pub table_type : Production TableTy
+unfoldable pub table_type : Production TableTypeModel
 table_type = made table_type_of (seq (flag (codes "shared")) (seq limits_type ref_type))
 
 -- ---- memory types

@@ -1,8 +1,7 @@
 -- A test of the order of groups, and the addition of groups one by one.
-use Rattle.std.specs.Prelude.{Bool, true, false, if◌then◌else◌, List, [], ◌∷◌, ◌++◌, Option, Some}
-use Rattle.std.specs.Prelude.{None}
+use Rattle.std.specs.Prelude.{Bool, true, false, if◌then◌else◌, List, [], ◌∷◌, ◌++◌, Option, Some, None}
 use Rattle.wat_tokens.specs.Views.{no_items}
-use Rattle.wat_types.specs.Group.{Group, param, result, FuncTy, function_of}
+use Rattle.wat_types.specs.Group.{Group, param, result, FunctionTypeModel, function_of}
 
 -- no group is a param group
 abbrev pub only_results : List Group → Bool
@@ -19,7 +18,7 @@ in_order (result (t ∷ ts) ∷ gs) = only_results gs
 -- ---- groups added one by one
 
 -- adds one more group; None for a param group if there are results
-abbrev pub add : FuncTy → Group → Option FuncTy
+abbrev pub add : FunctionTypeModel → Group → Option FunctionTypeModel
 add f (param ps) =
     if no_items f.results then Some (function_of (f.params ++ ps) f.results) else None
 add f (result rs) = Some (function_of f.params (f.results ++ rs))

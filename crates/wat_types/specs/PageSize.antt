@@ -1,13 +1,10 @@
 -- Which tokens spell the exponent of a page size.
 use Rattle.std.specs.Prelude.{ℕ, Bool, List, is_some, unwrap_or}
-use Rattle.wat_tokens.specs.Token.{Tok}
-use Rattle.wat_tokens.specs.Production.{Production}
-use Rattle.wat_tokens.specs.Parts.{made_where}
-use Rattle.wat_tokens.specs.Integers.{unsigned}
+use Rattle.wat_tokens.specs.Prelude.{Token, Production, made_where, unsigned}
 use Rattle.wat_types.specs.Exponent.{IsTwoTo, exponent}
 
 -- u32, which is 2 to the k
-abbrev pub ExponentSpells : ℕ → List Tok → List Tok → Type 0
+abbrev pub ExponentSpells : ℕ → List Token → List Token → Type 0
 ExponentSpells k c r = (n : ℕ) × (unsigned 32).spells n c r × IsTwoTo k n
 
 abbrev pub has_exponent : ℕ → Bool

@@ -1,30 +1,41 @@
 -- Reference types.
-use Rattle.std.specs.Prelude.{ℕ, Bool, true, false, List, [], ◌∷◌, codes, Option, Some, None}
-use Rattle.std.specs.Prelude.{refl}
-use Rattle.wat_tokens.specs.Token.{Tok}
-use Rattle.wat_tokens.specs.Tests.{word_in}
-use Rattle.wat_tokens.specs.Production.{Production}
-use Rattle.wat_tokens.specs.Parts.{one, seq, made, where_else, flag}
-use Rattle.wat_tokens.specs.Groups.{group}
-use Rattle.wat_types.specs.Heap.{HeapTy, abstract_, heap_view, heap_type}
+use Rattle.std.specs.Prelude.{ℕ, Bool, true, false, List, [], ◌∷◌, codes, Option, Some, None, refl}
+use Rattle.wat_tokens.specs.Prelude.{Token, word_in, Production, one, seq, made, where_else, flag, group, Test, run, either_test, at_group, at_listed}
+use Rattle.wat_types.specs.Heap.{HeapTypeModel, abstract_, heap_view, heap_type}
 use Rattle.wat_types.specs.declared.heap.AbstractHeapType.{AbstractHeapType}
-use Rattle.wat_types.specs.declared.heap.AbstractHeapType.TheVariants as word
 use Rattle.wat_types.specs.declared.heap.HeapType.{HeapType}
-use Rattle.wat_types.specs.declared.heap.HeapType.TheVariants as code
 use Rattle.wat_types.specs.declared.reference.RefType.{RefType}
 use Rattle.wat_types.specs.declared.reference.Shorthand.{Shorthand}
-use Rattle.wat_tokens.specs.Test.{Test, run, either_test, at_group, at_listed}
+use Rattle.wat_types.specs.declared.heap.AbstractHeapType.TheVariants as word
+use Rattle.wat_types.specs.declared.heap.HeapType.TheVariants as code
 
 -- a reference type, without the positions of indices
-pub record RefTy : Type 0 where
+pub record RefTypeModel : Type 0 where
   pub nullable : Bool
-  pub heap : HeapTy
+  pub heap : HeapTypeModel
 
-abbrev pub ref_view : RefType → RefTy
+abbrev pub ref_view : RefType → RefTypeModel
 ref_view t = record { nullable = t.nullable; heap = heap_view t.heap }
 
 abbrev pub shorthand_for : AbstractHeapType → Shorthand
 shorthand_for t = record { 0 = t }
+
+-- the shorthand for a nullable reference to the heap type
+abbrev pub short_word : AbstractHeapType → List ℕ
+short_word word.Func = codes "funcref"
+short_word word.Extern = codes "externref"
+short_word word.Exn = codes "exnref"
+short_word word.Cont = codes "contref"
+short_word word.Any = codes "anyref"
+short_word word.Eq = codes "eqref"
+short_word word.Struct = codes "structref"
+short_word word.Array = codes "arrayref"
+short_word word.I31 = codes "i31ref"
+short_word word.NoFunc = codes "nullfuncref"
+short_word word.NoExtern = codes "nullexternref"
+short_word word.NoExn = codes "nullexnref"
+short_word word.NoCont = codes "nullcontref"
+short_word word.None = codes "nullref"
 
 -- each shorthand with the heap type that it names
 abbrev pub shorthand_words : List (List ℕ × Shorthand)
@@ -47,15 +58,15 @@ shorthand = made (λ s. s.0) (one (word_in shorthand_words) (refl, refl))
 unfoldable pub at_shorthand : Test
 at_shorthand = at_listed shorthand_words
 
-abbrev pub begins_shorthand : List Tok → Bool
+abbrev pub begins_shorthand : List Token → Bool
 begins_shorthand t = run at_shorthand t
 
 -- the reference type of a shorthand for the heap type, shared or not
-abbrev pub short : Bool → AbstractHeapType → RefTy
+abbrev pub short : Bool → AbstractHeapType → RefTypeModel
 short shared t = record { nullable = true; heap = abstract_ shared t }
 
 -- ( ref null? HeapType ) | ( shared shorthand ) | shorthand
-unfoldable pub ref_type : Production RefTy
+unfoldable pub ref_type : Production RefTypeModel
 ref_type =
     where_else (at_group (codes "ref"))
     (made (λ v. record { nullable = v.0; heap = v.1 })
@@ -68,14 +79,14 @@ ref_type =
 abbrev pub at_long_ref : Test
 at_long_ref = either_test (at_group (codes "ref")) (at_group (codes "shared"))
 
-abbrev pub begins_long_ref : List Tok → Bool
+abbrev pub begins_long_ref : List Token → Bool
 begins_long_ref t = run at_long_ref t
 
 -- a shorthand, or `(` and `ref` or `shared`
 abbrev pub at_ref : Test
 at_ref = either_test at_shorthand at_long_ref
 
-abbrev pub begins_ref : List Tok → Bool
+abbrev pub begins_ref : List Token → Bool
 begins_ref t = run at_ref t
 
 -- ---- types that are not read from a text

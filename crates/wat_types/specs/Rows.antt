@@ -1,25 +1,12 @@
 -- Sample texts as tokens, and the types that they spell.
 use Rattle.std.specs.Prelude.{true, false, List, [], ◌∷◌, ◌++◌, codes, Some, None}
-use Rattle.wat_tokens.specs.Token.{Tok, Keyword, Id, Integer}
-use Rattle.wat_tokens.specs.Index.{number, name}
-use Rattle.wat_tokens.specs.Spelled.{in_parens, Spelled}
-use Rattle.wat_types.specs.Define.{func, struct_, array, cont, type_def, type_}
-use Rattle.wat_types.specs.Function.{function_type}
-use Rattle.wat_types.specs.Group.{plain_param, function_of, empty_function}
-use Rattle.wat_types.specs.Label.{label_of, no_label}
-use Rattle.wat_types.specs.Limits.{limits_type, pagesize_or_none}
-use Rattle.wat_types.specs.Reference.{short}
-use Rattle.wat_types.specs.Storage.{val, global_type}
-use Rattle.wat_types.specs.Storage as storage
+use Rattle.wat_types.specs.Prelude.{Token, Keyword, Id, Integer, number, name, in_parens, Spelled, func, struct_, array, cont, type_def, type_, function_type, function_of, empty_function, label_of, no_label, limits_type, pagesize_or_none, short, val, global_type, field_of, struct_type, use_of, type_use, ref, i32, i64, at_func}
+use Rattle.wat_types.specs.Group.{plain_param}
 use Rattle.wat_types.specs.Struct.{member_of}
-use Rattle.wat_types.specs.FieldType.{field_of}
-use Rattle.wat_types.specs.StructType.{struct_type}
-use Rattle.wat_types.specs.Use.{use_of, type_use}
-use Rattle.wat_types.specs.Value.{ref, i32, i64}
+use Rattle.wat_types.specs.Storage as storage
 use Rattle.wat_types.specs.declared.heap.AbstractHeapType.TheVariants as word
-use Rattle.wat_types.specs.Group.{at_func}
 
-abbrev shared_funcref : List Tok
+abbrev shared_funcref : List Token
 shared_funcref = in_parens (Keyword (codes "shared") ∷ Keyword (codes "funcref") ∷ [])
 
 -- `(pagesize 1)`, `(pagesize 65536)`, and no tokens
@@ -118,7 +105,7 @@ Described =
       };
     })
 
-abbrev type_3 : List Tok
+abbrev type_3 : List Token
 type_3 = in_parens (Keyword (codes "type") ∷ Integer (codes "3") ∷ [])
 
 -- `(type 3) (param i32)`, `(type 3)`, and no tokens

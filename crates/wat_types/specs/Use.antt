@@ -1,45 +1,38 @@
 -- Type uses: an index, an inline type, both or neither.
 use Rattle.std.specs.Prelude.{◌≡◌, Bool, List, codes, Option, Some, None, option_map, ⊤}
-use Rattle.wat_tokens.specs.Token.{Tok}
-use Rattle.wat_tokens.specs.Tests.{begins_word, second}
-use Rattle.wat_tokens.specs.Production.{Production}
-use Rattle.wat_tokens.specs.Parts.{seq, made, opt}
-use Rattle.wat_tokens.specs.Groups.{group}
-use Rattle.wat_tokens.specs.Index.{Idx, index_view, index}
-use Rattle.wat_tokens.specs.Views.{option_view, bare_option}
+use Rattle.wat_tokens.specs.Prelude.{Token, begins_word, second, Production, seq, made, opt, group, IndexModel, index_view, index, option_view, heapless_option, Test, second_word}
 use Rattle.wat_types.specs.declared.function.FunctionType.{FunctionType}
 use Rattle.wat_types.specs.declared.function.FunctionTypeNoNames.{FunctionTypeNoNames}
 use Rattle.wat_types.specs.declared.type_use.TypeUse.{TypeUse}
-use Rattle.wat_tokens.specs.Test.{Test, second_word}
 
 -- a type use, without the position of the index
-pub record UseTy (A : Type 0) : Type 0 where
-  pub index : Option Idx
+pub record TypeUseModel (A : Type 0) : Type 0 where
+  pub index : Option IndexModel
   pub inline : Option A
 
-abbrev pub use_of : {A : Type 0} → Option Idx → Option A → UseTy A
+abbrev pub use_of : {A : Type 0} → Option IndexModel → Option A → TypeUseModel A
 use_of i t = record { index = i; inline = t }
 
 -- a type use with the given view of its inline type
-abbrev pub use_view : {T A : Type 0} → (T → A) → TypeUse T → UseTy A
+abbrev pub use_view : {T A : Type 0} → (T → A) → TypeUse T → TypeUseModel A
 use_view view u = use_of (option_view index_view u.index) (option_view view u.inline)
 
--- has no inline type, or a bare inline type
-abbrev pub bare_use : {A : Type 0} → (A → Bool) → UseTy A → Bool
-bare_use bare u = bare_option bare u.inline
+-- has no inline type, or a heapless inline type
+abbrev pub heapless_use : {A : Type 0} → (A → Bool) → TypeUseModel A → Bool
+heapless_use heapless u = heapless_option heapless u.inline
 
 -- ---- the grammar
 
 -- the second token is `type`, for any first token
-abbrev pub type_follows : List Tok → Bool
+abbrev pub type_follows : List Token → Bool
 type_follows t = second (begins_word (codes "type")) t
 
 -- ( type idx )
-abbrev pub type_index : Production Idx
+abbrev pub type_index : Production IndexModel
 type_index = group (codes "type") index
 
 -- ( type idx )?, present if the second token is `type`; then T?, present if a T begins
-unfoldable pub type_use : {A : Type 0} → Test → Production A → Production (UseTy A)
+unfoldable pub type_use : {A : Type 0} → Test → Production A → Production (TypeUseModel A)
 type_use test t =
     made (λ v. use_of v.0 v.1) (seq (opt (second_word (codes "type")) type_index) (opt test t))
 

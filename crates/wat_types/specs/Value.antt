@@ -1,25 +1,20 @@
 -- Value types.
 use Rattle.std.specs.Prelude.{◌≡◌, ℕ, Bool, List, [], ◌∷◌, codes, Option, Some, None, refl}
-use Rattle.wat_tokens.specs.Token.{Tok}
-use Rattle.wat_tokens.specs.Tests.{word_in, look_up}
-use Rattle.wat_tokens.specs.Production.{Production}
-use Rattle.wat_tokens.specs.Parts.{one, made, where_else}
-use Rattle.wat_types.specs.Reference.{RefTy, ref_view, ref_type}
+use Rattle.wat_tokens.specs.Prelude.{Token, word_in, look_up, Production, one, made, where_else, Test, run, either_test, at_listed}
+use Rattle.wat_types.specs.Reference.{RefTypeModel, ref_view, ref_type, at_shorthand, at_long_ref}
 use Rattle.wat_types.specs.declared.value.ValType.{ValType}
 use Rattle.wat_types.specs.declared.value.ValType.TheVariants as code
-use Rattle.wat_tokens.specs.Test.{Test, run, either_test, at_listed}
-use Rattle.wat_types.specs.Reference.{at_shorthand, at_long_ref}
 
 -- a value type, without the positions of indices
-pub data ValTy : Type 0 where
-  i32 : ValTy
-  i64 : ValTy
-  f32 : ValTy
-  f64 : ValTy
-  v128 : ValTy
-  ref : RefTy → ValTy
+pub data ValTypeModel : Type 0 where
+  i32 : ValTypeModel
+  i64 : ValTypeModel
+  f32 : ValTypeModel
+  f64 : ValTypeModel
+  v128 : ValTypeModel
+  ref : RefTypeModel → ValTypeModel
 
-abbrev pub val_view : ValType → ValTy
+abbrev pub val_view : ValType → ValTypeModel
 val_view code.I32 = i32
 val_view code.I64 = i64
 val_view code.F32 = f32
@@ -28,13 +23,13 @@ val_view code.V128 = v128
 val_view (code.Ref r) = ref (ref_view r)
 
 -- the number and vector types, by keyword
-abbrev pub plain_words : List (List ℕ × ValTy)
+abbrev pub plain_words : List (List ℕ × ValTypeModel)
 plain_words =
     (codes "i32", i32) ∷ (codes "i64", i64) ∷ (codes "f32", f32) ∷ (codes "f64", f64)
     ∷ (codes "v128", v128) ∷ []
 
 -- one of the five words, or a RefType
-unfoldable pub val_type : Production ValTy
+unfoldable pub val_type : Production ValTypeModel
 val_type =
     where_else (at_listed plain_words) (one (word_in plain_words) (refl, refl))
     (made ref ref_type)
@@ -48,12 +43,12 @@ IsPlain w None = look_up plain_words w ≡ None
 unfoldable pub at_plain : Test
 at_plain = at_listed plain_words
 
-abbrev pub begins_plain : List Tok → Bool
+abbrev pub begins_plain : List Token → Bool
 begins_plain t = run at_plain t
 
 -- one of the five words, a shorthand, or `(` and `ref` or `shared`
 abbrev pub at_val : Test
 at_val = either_test at_plain (either_test at_shorthand at_long_ref)
 
-abbrev pub begins_val : List Tok → Bool
+abbrev pub begins_val : List Token → Bool
 begins_val t = run at_val t

@@ -1,18 +1,9 @@
 //! Type definitions and recursion groups.
 
 ghost use Rattle.std.specs.Prelude.{◌≡◌, List};
-ghost use Rattle.wat_tokens.specs.Index.{Idx, index_view, index};
-ghost use Rattle.wat_tokens.specs.Lookup.{in_front};
-ghost use Rattle.wat_tokens.specs.Reads.{Reads};
-ghost use Rattle.wat_tokens.specs.Tests.{second};
-ghost use Rattle.wat_tokens.specs.Views.{plain, owning, no_items, option_view};
-ghost use Rattle.wat_types.specs.Define.{InnerKindTy, inner_kind_view, bare_inner_kind, kind};
-ghost use Rattle.wat_types.specs.Define.{linked, DefTy};
-ghost use Rattle.wat_types.specs.Define.{def_view, bare_def, type_def};
-ghost use Rattle.wat_types.specs.Define.{TypeTy, type_view, bare_type, type_, begins_type};
-ghost use Rattle.wat_types.specs.Define.{grouped_type};
+ghost use Rattle.wat_tokens.specs.Prelude.{IndexModel, index_view, index, in_front, Reads, second, plain, owning, no_items, option_view};
+ghost use Rattle.wat_types.specs.Define.{InnerTypeKindModel, inner_kind_view, heapless_inner_kind, kind, linked, TypeDefModel, def_view, heapless_def, type_def, TypeModel, type_view, heapless_type, type_, begins_type, grouped_type, at_type};
 ghost use Rattle.wat_types.specs.Recursion.{types, rec_view, rec};
-ghost use Rattle.wat_types.specs.Define.{at_type};
 
 use crate::function::FunctionType;
 use crate::label::take_label;
@@ -82,7 +73,7 @@ pub struct Rec<'a> {
 
 /// Reads an index.
 impl<'a> Parse<'a> for ContType<'a> {
-    ghost View = { Idx };
+    ghost View = { IndexModel };
 
     ghost view = { plain (λ c. index_view c.0) };
 
@@ -97,9 +88,9 @@ impl<'a> Parse<'a> for ContType<'a> {
 /// [`ArrayType`], or `cont` and a [`ContType`]. Returns Unexpected, at the next token, if the token
 /// is any other.
 impl<'a> Parse<'a> for InnerTypeKind<'a> {
-    ghost View = { InnerKindTy };
+    ghost View = { InnerTypeKindModel };
 
-    ghost view = { owning inner_kind_view bare_inner_kind };
+    ghost view = { owning inner_kind_view heapless_inner_kind };
 
     ghost grammar = { kind };
 
@@ -138,11 +129,11 @@ fn read_link<'a>(parser: &mut Parser<'a>, word: &str) -> Result<Option<Index<'a>
 struct Described<'a>(TypeDef<'a>);
 
 impl<'a> Parse<'a> for Described<'a> {
-    ghost use Rattle.wat_types.specs.Define.{DefTy, def_view, bare_def, described};
+    ghost use Rattle.wat_types.specs.Define.{TypeDefModel, def_view, heapless_def, described};
 
-    ghost View = { DefTy };
+    ghost View = { TypeDefModel };
 
-    ghost view = { owning (λ d. def_view d.0) bare_def };
+    ghost view = { owning (λ d. def_view d.0) heapless_def };
 
     ghost grammar = { described };
 
@@ -167,11 +158,11 @@ impl<'a> Parse<'a> for Described<'a> {
 struct MaybeShared<'a>(TypeDef<'a>);
 
 impl<'a> Parse<'a> for MaybeShared<'a> {
-    ghost use Rattle.wat_types.specs.Define.{DefTy, def_view, bare_def, maybe_shared};
+    ghost use Rattle.wat_types.specs.Define.{TypeDefModel, def_view, heapless_def, maybe_shared};
 
-    ghost View = { DefTy };
+    ghost View = { TypeDefModel };
 
-    ghost view = { owning (λ d. def_view d.0) bare_def };
+    ghost view = { owning (λ d. def_view d.0) heapless_def };
 
     ghost grammar = { maybe_shared };
 
@@ -189,9 +180,9 @@ impl<'a> Parse<'a> for MaybeShared<'a> {
 /// Reads `sub final? idx* (` S `)`, or S without `sub`. S is `shared (` K `)`, or K without
 /// `shared`. K is (`describes` idx `) (`)?, (`descriptor` idx `) (`)?, and an [`InnerTypeKind`].
 impl<'a> Parse<'a> for TypeDef<'a> {
-    ghost View = { DefTy };
+    ghost View = { TypeDefModel };
 
-    ghost view = { owning def_view bare_def };
+    ghost view = { owning def_view heapless_def };
 
     ghost grammar = { type_def };
 
@@ -213,9 +204,9 @@ impl<'a> Parse<'a> for TypeDef<'a> {
 /// Reads `type`, an optional identifier, an optional name annotation, and a [`TypeDef`] in
 /// parentheses.
 impl<'a> Parse<'a> for Type<'a> {
-    ghost View = { TypeTy };
+    ghost View = { TypeModel };
 
-    ghost view = { owning type_view bare_type };
+    ghost view = { owning type_view heapless_type };
 
     ghost grammar = { type_ };
 
@@ -252,9 +243,9 @@ impl<'p> Peek for Type<'p> {
 struct GroupedType;
 
 impl<'a> Part<'a, Type<'a>> for GroupedType {
-    ghost View = { TypeTy };
+    ghost View = { TypeModel };
 
-    ghost view = { owning type_view bare_type };
+    ghost view = { owning type_view heapless_type };
 
     ghost grammar = { grouped_type };
 
@@ -272,7 +263,7 @@ impl<'a> Part<'a, Type<'a>> for GroupedType {
 /// Reads `rec`, and then `( Type )` as long as the second token is `type`. Returns Unexpected, at
 /// the first token, if the second token is `type` and the first isn't `(`.
 impl<'a> Parse<'a> for Rec<'a> {
-    ghost View = { List TypeTy };
+    ghost View = { List TypeModel };
 
     ghost view = { owning rec_view no_items };
 

@@ -1,24 +1,12 @@
 //! Function types.
 
 ghost use Rattle.std.specs.Prelude.{◌≡◌, [], codes};
-ghost use Rattle.wat_tokens.specs.Copies.{Copies};
-ghost use Rattle.wat_tokens.specs.Groups.{group};
-ghost use Rattle.wat_tokens.specs.Lookup.{in_front};
-ghost use Rattle.wat_tokens.specs.Many.{after_front};
-ghost use Rattle.wat_tokens.specs.Adding.{add_read};
-ghost use Rattle.wat_tokens.specs.Cost.{tokens_alone};
-ghost use Rattle.wat_tokens.specs.Parts.{made};
-ghost use Rattle.wat_tokens.specs.Reads.{Call, Reads};
-ghost use Rattle.wat_tokens.specs.Tests.{more};
-ghost use Rattle.wat_tokens.specs.Views.{plain, owning, no_items};
-ghost use Rattle.wat_types.specs.Function.{param_view, params_view, function_view, unnamed_view};
-ghost use Rattle.wat_types.specs.Function.{bare_function, function_groups, function_type};
+ghost use Rattle.wat_tokens.specs.Prelude.{Copies, group, in_front, after_front, add_read, tokens_alone, made, Call, Reads, more, plain, owning, no_items};
+ghost use Rattle.wat_types.specs.Function.{param_view, params_view, function_view, unnamed_view, heapless_function, function_groups, function_type};
 ghost use Rattle.wat_types.specs.FunctionNoNames.{function_type_no_names};
-ghost use Rattle.wat_types.specs.Group.{FuncTy, ParamTy, params, plain_param_only, func_group};
-ghost use Rattle.wat_types.specs.Group.{group_follows, begins_func, begins_group_word, val_types};
-ghost use Rattle.wat_types.specs.Group.{param as in_param, result as in_result};
+ghost use Rattle.wat_types.specs.Group.{FunctionTypeModel, ParamModel, params, plain_param_only, func_group, group_follows, begins_func, begins_group_word, val_types, at_func};
 ghost use Rattle.wat_types.specs.Order.{add};
-ghost use Rattle.wat_types.specs.Group.{at_func};
+ghost use Rattle.wat_types.specs.Group.{param as in_param, result as in_result};
 
 use crate::label::take_label;
 use crate::value::ValType;
@@ -43,7 +31,7 @@ pub struct FunctionTypeNoNames<'a>(pub FunctionType<'a>);
 struct PlainParam;
 
 impl<'a> Part<'a, (Option<Id<'a>>, Option<NameAnnotation<'a>>, ValType<'a>)> for PlainParam {
-    ghost View = { ParamTy };
+    ghost View = { ParamModel };
 
     ghost view = { plain param_view };
 
@@ -89,7 +77,7 @@ fn read_param_group<'a>(
     labels: bool,
     out: &mut FunctionType<'a>,
 ) -> Result<()>
-    ensures reads { Call tokens_alone (owning (λ _. function_view out.new) bare_function)
+    ensures reads { Call tokens_alone (owning (λ _. function_view out.new) heapless_function)
         (add_read add (function_view out.old) ((made in_param (group (codes "param")
         (params labels))).reads parser.old.left)) result parser.old parser.new }
 {
@@ -106,7 +94,7 @@ fn read_param_group<'a>(
 /// Appends a result group to `out`.
 #[tactic(auto, using(crate::specs::Laws::Value::val_type_consumes), unfolding(crate::specs::Group::val_types))]
 fn read_result_group<'a>(parser: &mut Parser<'a>, out: &mut FunctionType<'a>) -> Result<()>
-    ensures reads { Call tokens_alone (owning (λ _. function_view out.new) bare_function)
+    ensures reads { Call tokens_alone (owning (λ _. function_view out.new) heapless_function)
         (add_read add (function_view out.old) ((made in_result
         (group (codes "result") val_types)).reads parser.old.left)) result parser.old parser.new }
 {
@@ -122,7 +110,7 @@ fn read_result_group<'a>(parser: &mut Parser<'a>, out: &mut FunctionType<'a>) ->
 /// Appends one group to `out`.
 #[tactic(auto, unfolding(crate::specs::Group::func_group))]
 fn read_group<'a>(parser: &mut Parser<'a>, labels: bool, out: &mut FunctionType<'a>) -> Result<()>
-    ensures reads { Call tokens_alone (owning (λ _. function_view out.new) bare_function)
+    ensures reads { Call tokens_alone (owning (λ _. function_view out.new) heapless_function)
         (add_read add (function_view out.old) ((func_group labels).reads parser.old.left)) result
         parser.old parser.new }
 {
@@ -155,7 +143,7 @@ fn group_next(parser: &Parser<'_>) -> bool
 
 /// Reads groups as long as one more has to follow.
 fn read_groups<'a>(parser: &mut Parser<'a>, labels: bool) -> Result<FunctionType<'a>>
-    ensures reads { Reads (owning function_view bare_function) (function_groups labels) result
+    ensures reads { Reads (owning function_view heapless_function) (function_groups labels) result
         parser.old parser.new }
 {
     let mut found = FunctionType::empty(parser.alloc());
@@ -183,7 +171,7 @@ impl<'a> FunctionType<'a> {
     /// parameter or a result.
     pub fn clone(&self) -> Result<FunctionType<'a>>
         ensures copies { Copies (λ x y. (y.params.items ≡ x.params.items) ×
-            (y.results.items ≡ x.results.items)) (owning function_view bare_function) result
+            (y.results.items ≡ x.results.items)) (owning function_view heapless_function) result
             self.now }
     {
         let mut copy = FunctionType::empty(*self.params.allocator());
@@ -200,9 +188,9 @@ impl<'a> FunctionType<'a> {
 /// type. Returns Unexpected, at the first token, if the second token is `param` or `result` and the
 /// first isn't `(`.
 impl<'a> Parse<'a> for FunctionType<'a> {
-    ghost View = { FuncTy };
+    ghost View = { FunctionTypeModel };
 
-    ghost view = { owning function_view bare_function };
+    ghost view = { owning function_view heapless_function };
 
     ghost grammar = { function_type };
 
@@ -242,7 +230,7 @@ impl<'a> FunctionTypeNoNames<'a> {
     /// parameter or a result.
     pub fn clone(&self) -> Result<FunctionTypeNoNames<'a>>
         ensures copies { Copies (λ x y. (y.0.params.items ≡ x.0.params.items) ×
-            (y.0.results.items ≡ x.0.results.items)) (owning unnamed_view bare_function) result
+            (y.0.results.items ≡ x.0.results.items)) (owning unnamed_view heapless_function) result
             self.now }
     {
         Ok(FunctionTypeNoNames(self.0.clone()?))
@@ -252,9 +240,9 @@ impl<'a> FunctionTypeNoNames<'a> {
 /// Reads the same as a [`FunctionType`], without labels. Returns Unexpected at an identifier or a
 /// name annotation.
 impl<'a> Parse<'a> for FunctionTypeNoNames<'a> {
-    ghost View = { FuncTy };
+    ghost View = { FunctionTypeModel };
 
-    ghost view = { owning unnamed_view bare_function };
+    ghost view = { owning unnamed_view heapless_function };
 
     ghost grammar = { function_type_no_names };
 

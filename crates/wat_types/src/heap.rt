@@ -1,12 +1,9 @@
 //! Heap types.
 
 ghost use Rattle.std.specs.Prelude.{◌≡◌};
-ghost use Rattle.wat_tokens.specs.Lookup.{in_front};
-ghost use Rattle.wat_tokens.specs.Views.{plain};
-ghost use Rattle.wat_types.specs.Heap.{abstract_word, abstract_words};
-ghost use Rattle.wat_types.specs.Heap.{abstract_heap_type};
-ghost use Rattle.wat_types.specs.Heap.{heap_type, HeapTy, heap_view, begins_heap};
-ghost use Rattle.wat_types.specs.Heap.{at_abstract, at_heap};
+ghost use Rattle.wat_tokens.specs.Prelude.{in_front, plain};
+ghost use Rattle.wat_types.specs.Heap.{abstract_word, abstract_words, abstract_heap_type, heap_type, HeapTypeModel, heap_view, begins_heap, at_abstract, at_heap};
+ghost use Rattle.wat_types.specs.Laws.Named.{abstract_is_named};
 
 use wat_tokens::enclosed::in_word_group;
 use wat_tokens::words::{NamedByKeyword, begins_named, take_named};
@@ -62,33 +59,13 @@ pub enum HeapType<'a> {
     Exact(Index<'a>),
 }
 
-impl AbstractHeapType {
-    /// Returns the keyword of the type.
-    pub fn word(self) -> &'static str
-        ensures { result.now ≡ abstract_word self }
-    {
-        match self {
-            AbstractHeapType::Func => "func",
-            AbstractHeapType::Extern => "extern",
-            AbstractHeapType::Exn => "exn",
-            AbstractHeapType::Cont => "cont",
-            AbstractHeapType::Any => "any",
-            AbstractHeapType::Eq => "eq",
-            AbstractHeapType::Struct => "struct",
-            AbstractHeapType::Array => "array",
-            AbstractHeapType::I31 => "i31",
-            AbstractHeapType::NoFunc => "nofunc",
-            AbstractHeapType::NoExtern => "noextern",
-            AbstractHeapType::NoExn => "noexn",
-            AbstractHeapType::NoCont => "nocont",
-            AbstractHeapType::None => "none",
-        }
-    }
-}
-
-/// The abstract heap type that a keyword names.
+/// The abstract heap types by keyword.
 impl NamedByKeyword for AbstractHeapType {
     ghost words = { abstract_words };
+
+    ghost keyword = { abstract_word };
+
+    ghost is_named = { abstract_is_named };
 
     fn named(word: &str) -> Option<Self> {
         match word {
@@ -107,6 +84,25 @@ impl NamedByKeyword for AbstractHeapType {
             "nocont" => Some(AbstractHeapType::NoCont),
             "none" => Some(AbstractHeapType::None),
             _ => None,
+        }
+    }
+
+    fn word(self) -> &'static str {
+        match self {
+            AbstractHeapType::Func => "func",
+            AbstractHeapType::Extern => "extern",
+            AbstractHeapType::Exn => "exn",
+            AbstractHeapType::Cont => "cont",
+            AbstractHeapType::Any => "any",
+            AbstractHeapType::Eq => "eq",
+            AbstractHeapType::Struct => "struct",
+            AbstractHeapType::Array => "array",
+            AbstractHeapType::I31 => "i31",
+            AbstractHeapType::NoFunc => "nofunc",
+            AbstractHeapType::NoExtern => "noextern",
+            AbstractHeapType::NoExn => "noexn",
+            AbstractHeapType::NoCont => "nocont",
+            AbstractHeapType::None => "none",
         }
     }
 }
@@ -145,7 +141,7 @@ impl Peek for AbstractHeapType {
 
 /// Reads an index, `( exact idx )`, an [`AbstractHeapType`], or `( shared AbstractHeapType )`.
 impl<'a> Parse<'a> for HeapType<'a> {
-    ghost View = { HeapTy };
+    ghost View = { HeapTypeModel };
 
     ghost view = { plain heap_view };
 

@@ -1,7 +1,6 @@
 //! Labels: an identifier and a name annotation.
 
-ghost use Rattle.wat_tokens.specs.Reads.{Reads};
-ghost use Rattle.wat_tokens.specs.Views.{plain};
+ghost use Rattle.wat_tokens.specs.Prelude.{Reads, plain};
 ghost use Rattle.wat_types.specs.Label.{label, label_view};
 
 use wat_tokens::{Id, NameAnnotation, Parse, Parser, Result};

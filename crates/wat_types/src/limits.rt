@@ -1,11 +1,9 @@
 //! Limits, table types and memory types.
 
 ghost use Rattle.std.specs.Prelude.{◌≡◌};
-ghost use Rattle.wat_tokens.specs.Reads.{Reads};
-ghost use Rattle.wat_tokens.specs.Views.{plain};
+ghost use Rattle.wat_tokens.specs.Prelude.{Reads, plain};
 ghost use Rattle.wat_types.specs.Exponent.{exponent};
-ghost use Rattle.wat_types.specs.Limits.{is_64, page_exponent, pagesize_or_none, TableTy};
-ghost use Rattle.wat_types.specs.Limits.{table_type_view, table_type};
+ghost use Rattle.wat_types.specs.Limits.{is_64, page_exponent, pagesize_or_none, TableTypeModel, table_type_view, table_type};
 
 use crate::reference::RefType;
 use wat_tokens::{Error, Fault, Parse, Parser, Result};
@@ -129,7 +127,7 @@ pub fn page_size<'a>(parser: &mut Parser<'a>) -> Result<Option<u32>>
 
 /// Reads an optional `shared`, [`Limits`], and the element type.
 impl<'a> Parse<'a> for TableType<'a> {
-    ghost View = { TableTy };
+    ghost View = { TableTypeModel };
 
     ghost view = { plain table_type_view };
 

@@ -1,12 +1,9 @@
 //! Reference types.
 
 ghost use Rattle.std.specs.Prelude.{◌≡◌, IfSome};
-ghost use Rattle.wat_tokens.specs.Lookup.{in_front};
-ghost use Rattle.wat_tokens.specs.Views.{plain};
-ghost use Rattle.wat_types.specs.Reference.{RefTy, ref_type, ref_view, shorthand, shorthand_words};
-ghost use Rattle.wat_types.specs.Reference.{begins_shorthand, begins_long_ref, begins_ref};
-ghost use Rattle.wat_types.specs.Reference.{nullable_ref, shared_ref};
-ghost use Rattle.wat_types.specs.Reference.{at_ref};
+ghost use Rattle.wat_tokens.specs.Prelude.{in_front, plain};
+ghost use Rattle.wat_types.specs.Reference.{RefTypeModel, ref_type, ref_view, shorthand, shorthand_words, begins_shorthand, begins_long_ref, begins_ref, nullable_ref, shared_ref, at_ref, short_word};
+ghost use Rattle.wat_types.specs.Laws.Named.{shorthand_is_named};
 
 use crate::heap::{AbstractHeapType, HeapType};
 use wat_tokens::enclosed::in_word_group;
@@ -22,13 +19,18 @@ pub struct RefType<'a> {
     pub heap: HeapType<'a>,
 }
 
-/// A shorthand, as the heap type that it names.
+/// The shorthand of a nullable reference type, as the heap type that it names: `funcref` is
+/// `Shorthand(AbstractHeapType::Func)`.
 #[derive(Clone, Copy)]
-struct Shorthand(AbstractHeapType);
+pub struct Shorthand(pub AbstractHeapType);
 
 /// The shorthands by keyword (Text Format, Types, "Reference Types", "Abbreviations").
 impl NamedByKeyword for Shorthand {
     ghost words = { shorthand_words };
+
+    ghost keyword = { λ s. short_word s.0 };
+
+    ghost is_named = { shorthand_is_named };
 
     fn named(word: &str) -> Option<Self> {
         match word {
@@ -47,6 +49,25 @@ impl NamedByKeyword for Shorthand {
             "nullcontref" => Some(Shorthand(AbstractHeapType::NoCont)),
             "nullref" => Some(Shorthand(AbstractHeapType::None)),
             _ => None,
+        }
+    }
+
+    fn word(self) -> &'static str {
+        match self.0 {
+            AbstractHeapType::Func => "funcref",
+            AbstractHeapType::Extern => "externref",
+            AbstractHeapType::Exn => "exnref",
+            AbstractHeapType::Cont => "contref",
+            AbstractHeapType::Any => "anyref",
+            AbstractHeapType::Eq => "eqref",
+            AbstractHeapType::Struct => "structref",
+            AbstractHeapType::Array => "arrayref",
+            AbstractHeapType::I31 => "i31ref",
+            AbstractHeapType::NoFunc => "nullfuncref",
+            AbstractHeapType::NoExtern => "nullexternref",
+            AbstractHeapType::NoExn => "nullexnref",
+            AbstractHeapType::NoCont => "nullcontref",
+            AbstractHeapType::None => "nullref",
         }
     }
 }
@@ -77,9 +98,9 @@ struct LongRef<'a> {
 impl<'a> Parse<'a> for LongRef<'a> {
     ghost use Rattle.std.specs.Prelude.{Bool, codes};
     ghost use Rattle.wat_tokens.specs.Parts.{seq, flag};
-    ghost use Rattle.wat_types.specs.Heap.{HeapTy, heap_view, heap_type};
+    ghost use Rattle.wat_types.specs.Heap.{HeapTypeModel, heap_view, heap_type};
 
-    ghost View = { Bool × HeapTy };
+    ghost View = { Bool × HeapTypeModel };
 
     ghost view = { plain (λ r. (r.nullable, heap_view r.heap)) };
 
@@ -239,7 +260,7 @@ impl<'a> RefType<'a> {
 /// Reads `( ref null? HeapType )`, a shorthand such as `funcref`, or `( shared shorthand )`
 /// (WebAssembly Core Specification, Text Format, Types, "Reference Types", Abbreviations).
 impl<'a> Parse<'a> for RefType<'a> {
-    ghost View = { RefTy };
+    ghost View = { RefTypeModel };
 
     ghost view = { plain ref_view };
 

@@ -2,8 +2,7 @@
 
 ghost use Rattle.std.specs.Prelude.{◌≡◌};
 ghost use Rattle.wat_tokens.specs.Views.{plain};
-ghost use Rattle.wat_types.specs.Storage.{StorageTy, storage_view, storage_type, GlobalTy};
-ghost use Rattle.wat_types.specs.Storage.{global_type_view, global_type, long_global};
+ghost use Rattle.wat_types.specs.Storage.{StorageTypeModel, storage_view, storage_type, GlobalTypeModel, global_type_view, global_type, long_global};
 
 use crate::value::ValType;
 use wat_tokens::{Parse, Parser, Result};
@@ -34,7 +33,7 @@ pub struct GlobalType<'a> {
 /// Reads `i8`, `i16`, or a [`ValType`]. Returns Unexpected, at the next token, if the token begins
 /// no such type.
 impl<'a> Parse<'a> for StorageType<'a> {
-    ghost View = { StorageTy };
+    ghost View = { StorageTypeModel };
 
     ghost view = { plain storage_view };
 
@@ -66,7 +65,7 @@ fn long_global_next(parser: &Parser<'_>) -> bool
 /// [`ValType`]. So `(shared funcref)` is a shared global of type `funcref`, and `(mut (shared
 /// funcref))` a mutable global of a shared reference type.
 impl<'a> Parse<'a> for GlobalType<'a> {
-    ghost View = { GlobalTy };
+    ghost View = { GlobalTypeModel };
 
     ghost view = { plain global_type_view };
 

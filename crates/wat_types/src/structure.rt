@@ -1,15 +1,9 @@
 //! Structure and array types.
 
 ghost use Rattle.std.specs.Prelude.{◌≡◌, List};
-ghost use Rattle.wat_tokens.specs.Copies.{Copies};
-ghost use Rattle.wat_tokens.specs.Cost.{tokens_alone};
-ghost use Rattle.wat_tokens.specs.Many.{after_front, Extends};
-ghost use Rattle.wat_tokens.specs.Reads.{Call};
-ghost use Rattle.wat_tokens.specs.Tests.{more};
-ghost use Rattle.wat_tokens.specs.Views.{plain, owning, no_items};
-ghost use Rattle.wat_types.specs.Struct.{array_view, MemberTy, member_view, members_view};
-ghost use Rattle.wat_types.specs.Struct.{plain_member, members, member_group, struct_view};
-ghost use Rattle.wat_types.specs.FieldType.{FieldTy, field_type};
+ghost use Rattle.wat_tokens.specs.Prelude.{Copies, tokens_alone, after_front, Extends, Call, more, plain, owning, no_items};
+ghost use Rattle.wat_types.specs.Struct.{array_view, StructFieldModel, member_view, members_view, plain_member, members, member_group, struct_view};
+ghost use Rattle.wat_types.specs.FieldType.{FieldTypeModel, field_type};
 ghost use Rattle.wat_types.specs.StructType.{struct_type};
 
 use crate::label::take_label;
@@ -50,7 +44,7 @@ pub struct StructType<'a> {
 
 /// Reads `( mut StorageType )` if the second token is `mut`, and otherwise a [`StorageType`].
 impl<'a> Parse<'a> for ArrayType<'a> {
-    ghost View = { FieldTy };
+    ghost View = { FieldTypeModel };
 
     ghost view = { plain array_view };
 
@@ -71,7 +65,7 @@ impl<'a> Parse<'a> for ArrayType<'a> {
 struct PlainField;
 
 impl<'a> Part<'a, StructField<'a>> for PlainField {
-    ghost View = { MemberTy };
+    ghost View = { StructFieldModel };
 
     ghost view = { plain member_view };
 
@@ -120,7 +114,7 @@ fn read_fields<'a>(parser: &mut Parser<'a>, out: &mut Vec<StructField<'a>>) -> R
 struct FieldGroup;
 
 impl<'a> Group<'a, StructField<'a>> for FieldGroup {
-    ghost View = { MemberTy };
+    ghost View = { StructFieldModel };
 
     ghost view = { plain member_view };
 
@@ -160,7 +154,7 @@ impl<'a> StructType<'a> {
 /// a name annotation, and `( field F* )`. F is `( mut StorageType )` if the second token is `mut`,
 /// and otherwise a [`StorageType`].
 impl<'a> Parse<'a> for StructType<'a> {
-    ghost View = { List MemberTy };
+    ghost View = { List StructFieldModel };
 
     ghost view = { owning struct_view no_items };
 

@@ -1,12 +1,10 @@
 //! Tag types.
 
-ghost use Rattle.std.specs.Prelude.{◌≡◌};
-ghost use Rattle.wat_tokens.specs.Copies.{Copies};
-ghost use Rattle.wat_tokens.specs.Views.{owning};
-ghost use Rattle.wat_types.specs.Function.{bare_function};
-ghost use Rattle.wat_types.specs.Group.{FuncTy};
+ghost use Rattle.wat_tokens.specs.Prelude.{Copies, owning};
+ghost use Rattle.wat_types.specs.Function.{heapless_function};
+ghost use Rattle.wat_types.specs.Group.{FunctionTypeModel};
 ghost use Rattle.wat_types.specs.Tag.{SameTag, tag_type_view, tag_type};
-ghost use Rattle.wat_types.specs.Use.{UseTy, bare_use};
+ghost use Rattle.wat_types.specs.Use.{TypeUseModel, heapless_use};
 
 use crate::function::FunctionType;
 use crate::type_use::TypeUse;
@@ -23,7 +21,8 @@ impl<'a> TagType<'a> {
     /// Returns a copy of the tag type. Returns the error Memory only if the inline type has a
     /// parameter or a result.
     pub fn clone(&self) -> Result<TagType<'a>>
-        ensures copies { Copies SameTag (owning tag_type_view (bare_use bare_function)) result
+        ensures copies { Copies SameTag (owning tag_type_view (heapless_use heapless_function))
+            result
             self.now }
     {
         match self {
@@ -34,9 +33,9 @@ impl<'a> TagType<'a> {
 
 /// Reads a [`TypeUse`] of a [`FunctionType`].
 impl<'a> Parse<'a> for TagType<'a> {
-    ghost View = { UseTy FuncTy };
+    ghost View = { TypeUseModel FunctionTypeModel };
 
-    ghost view = { owning tag_type_view (bare_use bare_function) };
+    ghost view = { owning tag_type_view (heapless_use heapless_function) };
 
     ghost grammar = { tag_type };
 

@@ -1,11 +1,9 @@
 //! Type uses.
 
 ghost use Rattle.std.specs.Prelude.{◌≡◌, Some, None};
-ghost use Rattle.wat_tokens.specs.Copies.{Copies};
-ghost use Rattle.wat_tokens.specs.Views.{owning, holding};
-ghost use Rattle.wat_types.specs.Function.{function_view, unnamed_view, bare_function};
-ghost use Rattle.wat_types.specs.Use.{UseTy, use_view, bare_use, type_use, SameFunction};
-ghost use Rattle.wat_types.specs.Use.{SameUnnamed, SameUse, with_names};
+ghost use Rattle.wat_tokens.specs.Prelude.{Copies, owning, holding};
+ghost use Rattle.wat_types.specs.Function.{function_view, unnamed_view, heapless_function};
+ghost use Rattle.wat_types.specs.Use.{TypeUseModel, use_view, heapless_use, type_use, SameFunction, SameUnnamed, SameUse, with_names};
 
 use crate::function::{FunctionType, FunctionTypeNoNames};
 use wat_tokens::enclosed::in_word_group;
@@ -37,9 +35,9 @@ impl<'a, T> TypeUse<'a, T> {
 /// Reads `( type idx )` if the second token is `type`, and then a T if the next tokens begin a T.
 /// Returns Unexpected, at the first token, if the second token is `type` and the first isn't `(`.
 impl<'a, T: Parse<'a> + Peek> Parse<'a> for TypeUse<'a, T> {
-    ghost View = { UseTy T.View };
+    ghost View = { TypeUseModel T.View };
 
-    ghost view = { holding T.view (use_view T.view.of) (bare_use T.view.bare) };
+    ghost view = { holding T.view (use_view T.view.of) (heapless_use T.view.heapless) };
 
     ghost cost = { T.cost };
 
@@ -62,7 +60,7 @@ impl<'a> TypeUse<'a, FunctionType<'a>> {
     /// parameter or a result.
     pub fn clone(&self) -> Result<Self>
         ensures copies { Copies (SameUse SameFunction) (owning (use_view function_view)
-            (bare_use bare_function)) result self.now }
+            (heapless_use heapless_function)) result self.now }
     {
         Ok(TypeUse {
             index: self.index,
@@ -76,7 +74,7 @@ impl<'a> TypeUse<'a, FunctionTypeNoNames<'a>> {
     /// parameter or a result.
     pub fn clone(&self) -> Result<Self>
         ensures copies { Copies (SameUse SameUnnamed) (owning (use_view unnamed_view)
-            (bare_use bare_function)) result self.now }
+            (heapless_use heapless_function)) result self.now }
     {
         Ok(TypeUse {
             index: self.index,

@@ -1,11 +1,8 @@
 //! Value types.
 
 ghost use Rattle.std.specs.Prelude.{◌≡◌};
-ghost use Rattle.wat_tokens.specs.Lookup.{in_front};
-ghost use Rattle.wat_tokens.specs.Views.{plain};
-ghost use Rattle.wat_types.specs.Value.{ValTy, val_view, val_type, IsPlain, begins_plain};
-ghost use Rattle.wat_types.specs.Value.{begins_val};
-ghost use Rattle.wat_types.specs.Value.{at_val};
+ghost use Rattle.wat_tokens.specs.Prelude.{in_front, plain};
+ghost use Rattle.wat_types.specs.Value.{ValTypeModel, val_view, val_type, IsPlain, begins_plain, begins_val, at_val};
 
 use crate::reference::{RefType, long_ref_at, shorthand_at};
 use wat_tokens::{Cursor, Parse, Parser, Peek, Result};
@@ -44,7 +41,7 @@ fn plain<'a>(word: &str) -> Option<ValType<'a>>
 
 /// Reads `i32`, `i64`, `f32`, `f64`, `v128`, or a [`RefType`].
 impl<'a> Parse<'a> for ValType<'a> {
-    ghost View = { ValTy };
+    ghost View = { ValTypeModel };
 
     ghost view = { plain val_view };
 

@@ -1,11 +1,7 @@
 //! A type of a user's own that tokens spell: the call of an exported function, as a script has it.
 
 ghost use Rattle.std.specs.Prelude.{ℕ, List, Option, codes};
-ghost use Rattle.wat_core.specs.Groups.{group};
-ghost use Rattle.wat_core.specs.Index.{name_of, identifier};
-ghost use Rattle.wat_core.specs.Parts.{opt, seq};
-ghost use Rattle.wat_core.specs.Strings.{text};
-ghost use Rattle.wat_core.specs.Test.{at_id};
+ghost use Rattle.wat_print_module.specs.Prelude.{group, name_of, identifier, opt, seq, text, at_id};
 ghost use Rattle.wat_core.specs.Views.{plain, option_view};
 
 use bumpalo::Bump;

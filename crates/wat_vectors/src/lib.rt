@@ -1,4 +1,4 @@
-//! Tests of what neither a contract nor a row of `wat_rows` covers. The tests are proved too.
+//! Tests of what neither a contract nor a row of `wat_golden` covers. The tests are proved too.
 //!
 //! - Runs of the program: over readers and writers that fail, and for texts that are nested deeply,
 //!   cut off or not UTF-8.
@@ -6,7 +6,7 @@
 //!   one.
 //! - Types of a user's own.
 //! - What is printed of values that a program made.
-//! - Short texts that are formatted, that have a twin, or that have several errors.
+//! - Short texts that are formatted, that have float literals, or that have several errors.
 #![tactic(auto)]
 
 #[cfg(test)]
@@ -28,6 +28,8 @@ mod lookahead;
 #[cfg(test)]
 mod made;
 #[cfg(test)]
+mod masked;
+#[cfg(test)]
 mod module;
 #[cfg(test)]
 mod opcodes;
@@ -43,7 +45,5 @@ mod refused;
 mod script;
 #[cfg(test)]
 mod streams;
-#[cfg(test)]
-mod twins;
 #[cfg(test)]
 mod words;

@@ -2,11 +2,7 @@
 
 ghost use Rattle.std.specs.Prelude.{ℕ, List, map, codes};
 ghost use Rattle.std.proofs.Common.{lit≤};
-ghost use Rattle.wat_core.specs.Groups.{group};
-ghost use Rattle.wat_core.specs.Index.{identifier, name_of};
-ghost use Rattle.wat_core.specs.Many.{many};
-ghost use Rattle.wat_core.specs.Test.{at_id};
-ghost use Rattle.wat_core.specs.Views.{owning, no_items};
+ghost use Rattle.wat_print_module.specs.Prelude.{group, identifier, name_of, many, at_id, owning, no_items};
 
 use bumpalo::Bump;
 use std::test::Fail;

@@ -1,15 +1,10 @@
 //! A list of a user's own directives, to the end of a text: modules and calls, as a script has them.
 
 ghost use Rattle.std.specs.Prelude.{◌⊎◌, List, true, false, codes, map};
-ghost use Rattle.std.proofs.Common.{inl, inr, lit≤};
 ghost use Rattle.std.proofs.Math.Nat.{le-min, le_trans, le-add_left};
+ghost use Rattle.std.proofs.Common.{inl, inr, lit≤};
+ghost use Rattle.wat_print_module.specs.Prelude.{paren, many, ModuleModel, module_, made, where_else, at_group, at_more, owning, no_items};
 ghost use Rattle.wat_core.specs.Cost.{turns_too};
-ghost use Rattle.wat_core.specs.Groups.{paren};
-ghost use Rattle.wat_core.specs.Many.{many};
-ghost use Rattle.wat_core.specs.Module.{ModuleTy, module_};
-ghost use Rattle.wat_core.specs.Parts.{made, where_else};
-ghost use Rattle.wat_core.specs.Test.{at_group, at_more};
-ghost use Rattle.wat_core.specs.Views.{owning, no_items};
 
 use crate::invoke::Invoke;
 use bumpalo::Bump;
@@ -30,7 +25,7 @@ pub enum Directive<'a> {
 impl<'a> Parse<'a> for Directive<'a> {
     ghost use Rattle.wat_vectors.specs.declared.script.Directive.TheVariants as code;
 
-    ghost View = { ModuleTy ⊎ ⟦<Invoke<'a> as Parse<'a>>⟧.View };
+    ghost View = { ModuleModel ⊎ ⟦<Invoke<'a> as Parse<'a>>⟧.View };
 
     ghost view = { owning (elim [
       | code.«Module» m ↦ inl (⟦<Box<VisibleModule<'a>> as Parse<'a>>⟧.view.of m)

@@ -1,33 +1,25 @@
 -- Laws: expressions of one plain instruction.
 use Rattle.std.proofs.Common.{◌≡◌, true, List, [], ◌∷◌, ◌++◌, codes, Some, refl, ap, append_assoc}
-use Rattle.wat_tokens.specs.Tests.{ends}
-use Rattle.wat_tokens.specs.Spelled.{in_parens}
-use Rattle.wat_tokens.specs.Token.{Tok, LParen, RParen, Keyword}
+use Rattle.wat_expr.specs.Prelude.{ends, in_parens, Token, LParen, RParen, Keyword, InstructionModel, instruction, instruction_read, operand, NoGroup, IsOther, sort, Nil, Plain, Folded, expression, nop, folded_instruction}
+use Rattle.wat_expr.specs.Alone.{alone}
 use Rattle.wat_mnemonics.specs.declared.op.Op.TheVariants as word
 use Rattle.wat_mnemonics.specs.declared.scalar.ScalarOp.TheVariants as scalar
-use Rattle.wat_instr.specs.Instruction.{Instr, instruction}
-use Rattle.wat_instr.specs.Laws.First.{instruction_read}
-use Rattle.wat_instr.specs.Operand.{operand}
 use Rattle.wat_instr.specs.Operand as operands
-use Rattle.wat_expr.specs.Folded.{NoGroup}
-use Rattle.wat_expr.specs.Items.{IsOther, sort, Nil, Plain, Folded}
-use Rattle.wat_expr.specs.ExpressionProduction.{expression}
-use Rattle.wat_expr.specs.Alone.{alone, nop}
-use Rattle.wat_expr.specs.FoldedProduction.{folded_instruction}
 
 -- if an instruction and then an end are read, the expression is that instruction
-pub alone_read : (i : Instr) (c r : List Tok) → instruction.reads (c ++ r) ≡ Some (i, r)
+pub alone_read : (i : InstructionModel) (c r : List Token)
+    → instruction.reads (c ++ r) ≡ Some (i, r)
     → ends r ≡ true → expression.reads (c ++ r) ≡ Some (alone i, r)
 unfolding expression
 alone_read i c r e k =
     expression.complete (alone i) c r
     (Plain i Nil, (r, instruction.sound (c ++ r) (i, r) e, refl), k, refl)
 
-abbrev pub nop_text : List Tok
+abbrev pub nop_text : List Token
 nop_text = Keyword (codes "nop") ∷ []
 
 -- `nop` before an end
-pub nop_read : (r : List Tok) → ends r ≡ true
+pub nop_read : (r : List Token) → ends r ≡ true
     → expression.reads (nop_text ++ r) ≡ Some (alone nop, r)
 unfolding operand
 nop_read r k =
@@ -36,7 +28,7 @@ nop_read r k =
 
 -- if an instruction that opens no block is alone in a group, and an end follows, the expression is
 -- that instruction
-pub grouped_read : (i : Instr) (c r : List Tok)
+pub grouped_read : (i : InstructionModel) (c r : List Token)
     → instruction.reads (c ++ RParen ∷ r) ≡ Some (i, RParen ∷ r) → sort i ≡ IsOther → ends r ≡ true
     → expression.reads (in_parens c ++ r) ≡ Some (alone i, r)
 unfolding expression
@@ -48,7 +40,7 @@ grouped_read i c r e s k =
         c ++ RParen ∷ r,
         RParen ∷ r,
         r,
-        ap (λ (u : List Tok). LParen ∷ u) (append_assoc c (RParen ∷ []) r),
+        ap (λ (u : List Token). LParen ∷ u) (append_assoc c (RParen ∷ []) r),
         s,
         front,
         refl,
@@ -59,7 +51,7 @@ grouped_read i c r e s k =
     )
 
 -- if an instruction is alone in a group, the folded instruction is that instruction
-pub folded_read : (i : Instr) (c r : List Tok)
+pub folded_read : (i : InstructionModel) (c r : List Token)
     → instruction.reads (c ++ RParen ∷ r) ≡ Some (i, RParen ∷ r)
     → folded_instruction.reads (in_parens c ++ r) ≡ Some (alone i, r)
 unfolding folded_instruction
@@ -71,7 +63,7 @@ folded_read i c r e =
       (
         c ++ RParen ∷ r,
         RParen ∷ r,
-        ap (λ (u : List Tok). LParen ∷ u) (append_assoc c (RParen ∷ []) r),
+        ap (λ (u : List Token). LParen ∷ u) (append_assoc c (RParen ∷ []) r),
         front,
         refl,
       ),

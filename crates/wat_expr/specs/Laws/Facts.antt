@@ -1,71 +1,70 @@
 -- Laws: facts about instructions that items use, and the tokens that can follow a list of items.
-use Rattle.std.specs.Prelude.{◌≡◌, ◌+◌, ◌≤◌, ◌<◌, List, [], ◌∷◌, ◌++◌, length, Some, codes}
-use Rattle.std.proofs.Common.{ap, subst, sym, ◌∙◌, arith, length-append, append_assoc}
-use Rattle.wat_tokens.specs.Token.{Tok, LParen, RParen, Keyword, String}
-use Rattle.wat_tokens.specs.Parens.{AreBalanced, opens, closes}
-use Rattle.wat_tokens.specs.Laws.Production.{none_is_not, less_left}
-use Rattle.wat_tokens.specs.Laws.Parens.{opens-append, closes-append}
-use Rattle.wat_instr.specs.Instruction.{Instr, instruction}
-use Rattle.wat_instr.specs.Laws.First.{instruction_first, instruction_none, instruction_consumes}
-use Rattle.wat_instr.specs.Laws.First.{instruction_not_then}
-use Rattle.wat_expr.specs.Items.{reads, keyword, hint_name, Items, Nil, Plain, Folded, Block}
-use Rattle.wat_expr.specs.Items.{IfThen, IfElse, Hinted, lists}
+use Rattle.std.proofs.Common.{◌≡◌, ◌+◌, ◌≤◌, ◌<◌, List, [], ◌∷◌, ◌++◌, length, Some, codes, ap, subst, sym, ◌∙◌, arith, length-append, append_assoc, true}
+use Rattle.wat_instr.specs.Prelude.{Token, LParen, RParen, Keyword, String, AreBalanced, opens, closes, none_is_not, opens-append, closes-append, InstructionModel, instruction, instruction_none}
+use Rattle.wat_tokens.specs.Laws.Production.{less_left}
+use Rattle.wat_instr.specs.Laws.First.{instruction_first, instruction_consumes, instruction_not_then}
+use Rattle.wat_expr.specs.Items.{reads, keyword, hint_name, Items, Nil, Plain, Folded, Block, IfThen, IfElse, Hinted, lists, sort, IsIf, is_branch}
 
 -- ---- instructions
 
-abbrev pub IsWord : Tok → Type 0
+abbrev pub IsWord : Token → Type 0
 IsWord (Keyword w) = Unit {0}
 IsWord _ = ⊥
 
-first_of_list : (x y : Tok) (a b : List Tok) → x ∷ a ≡ y ∷ b → x ≡ y
+first_of_list : (x y : Token) (a b : List Token) → x ∷ a ≡ y ∷ b → x ≡ y
 first_of_list x y a b e = cc
 
 -- an instruction that a prefix spells is read from the tokens
-pub read_of : (i : Instr) (ts m : List Tok) → reads i ts m → instruction.reads ts ≡ Some (i, m)
+pub read_of : (i : InstructionModel) (ts m : List Token) → reads i ts m
+    → instruction.reads ts ≡ Some (i, m)
 read_of i ts m (c, e, s) = rw e (instruction.complete i c m s)
 
-pub reads_of : (i : Instr) (ts m : List Tok) → instruction.reads ts ≡ Some (i, m) → reads i ts m
+pub reads_of : (i : InstructionModel) (ts m : List Token) → instruction.reads ts ≡ Some (i, m)
+    → reads i ts m
 reads_of i ts m e = instruction.sound ts (i, m) e
 
 -- the first token of an instruction is a keyword
-pub word_front : (i : Instr) (t : Tok) (u m : List Tok) → reads i (t ∷ u) m → IsWord t
+pub word_front : (i : InstructionModel) (t : Token) (u m : List Token) → reads i (t ∷ u) m
+    → IsWord t
 word_front i t u m h =
     let f = instruction_first (t ∷ u) (i, m) (read_of i (t ∷ u) m h) in
     subst IsWord (sym (first_of_list t (Keyword f.0) u f.1 f.2)) tt
 
-pub reads_nothing : (i : Instr) (m : List Tok) → reads i [] m → ⊥
+pub reads_nothing : (i : InstructionModel) (m : List Token) → reads i [] m → ⊥
 reads_nothing i m h = none_is_not (i, m) (sym instruction_none ∙ read_of i [] m h)
 
 -- an instruction takes at least one token
-pub reads_shorter : (i : Instr) (ts m : List Tok) → reads i ts m → length m < length ts
+pub reads_shorter : (i : InstructionModel) (ts m : List Token) → reads i ts m → length m < length ts
 reads_shorter i ts m h = less_left instruction ts i m instruction_consumes (read_of i ts m h)
 
 -- the parentheses of an instruction are balanced
-pub reads_balanced : (i : Instr) (ts m : List Tok) → reads i ts m
+pub reads_balanced : (i : InstructionModel) (ts m : List Token) → reads i ts m
     → opens ts + closes m ≡ closes ts + opens m
 reads_balanced i ts m h =
     let e : AreBalanced h.0 = instruction.balanced i h.0 m h.2 in
     omega (arith, e, ap opens h.1, ap closes h.1, opens-append h.0 m, closes-append h.0 m)
 
 -- an instruction is read from a prefix
-pub reads_front : (i : Instr) (ts m : List Tok) → reads i ts m → (c : List Tok) × (ts ≡ c ++ m)
+pub reads_front : (i : InstructionModel) (ts m : List Token) → reads i ts m
+    → (c : List Token) × (ts ≡ c ++ m)
 reads_front i ts m h = (h.0, h.1)
 
 -- `then` is not a mnemonic
-pub reads_not_then : (i : Instr) (ts m : List Tok) → reads i (keyword (codes "then") ∷ ts) m → ⊥
+pub reads_not_then : (i : InstructionModel) (ts m : List Token)
+    → reads i (keyword (codes "then") ∷ ts) m → ⊥
 reads_not_then i ts m h =
     none_is_not (i, m) (sym (instruction_not_then ts) ∙ read_of i (keyword (codes "then") ∷ ts) m h)
 
 -- ---- the tokens that list items are a prefix with balanced parentheses
 
 -- r is what is left of ts after a prefix with balanced parentheses; r is not longer than ts
-pub record Between (ts r : List Tok) : Type 0 where
-  pub front : List Tok
+pub record Between (ts r : List Token) : Type 0 where
+  pub front : List Token
   pub is : ts ≡ front ++ r
   pub shorter : length r ≤ length ts
   pub balanced : opens ts + closes r ≡ closes ts + opens r
 
-abbrev pub is_between : (ts c r : List Tok) → ts ≡ c ++ r
+abbrev pub is_between : (ts c r : List Token) → ts ≡ c ++ r
     → opens ts + closes r ≡ closes ts + opens r → Between ts r
 is_between ts c r e l =
     record {
@@ -75,20 +74,20 @@ is_between ts c r e l =
       balanced = l;
     }
 
-append_behind : (a b m r : List Tok) → m ≡ b ++ r → a ++ m ≡ (a ++ b) ++ r
+append_behind : (a b m r : List Token) → m ≡ b ++ r → a ++ m ≡ (a ++ b) ++ r
 append_behind a b m r e = rw e (simp append_assoc)
 
-pub group_is : (a f y x d b r : List Tok) → a ≡ f ++ b → b ≡ y ++ (RParen ∷ d) → d ≡ x ++ r
+pub group_is : (a f y x d b r : List Token) → a ≡ f ++ b → b ≡ y ++ (RParen ∷ d) → d ≡ x ++ r
     → LParen ∷ a ≡ (LParen ∷ (f ++ (y ++ (RParen ∷ x)))) ++ r
 group_is a f y x d b r e1 e2 e3 = rw (e1, e2, e3) (simp append_assoc)
 
-then_is : (a f o t x b d e r : List Tok) → a ≡ f ++ b
+then_is : (a f o t x b d e r : List Token) → a ≡ f ++ b
     → b ≡ o ++ (LParen ∷ keyword (codes "then") ∷ d) → d ≡ t ++ (RParen ∷ RParen ∷ e) → e ≡ x ++ r
     → LParen ∷ a ≡ (LParen ∷ (f ++ (o
     ++ (LParen ∷ keyword (codes "then") ∷ (t ++ (RParen ∷ RParen ∷ x)))))) ++ r
 then_is a f o t x b d e r e1 e2 e3 e4 = rw (e1, e2, e3, e4) (simp append_assoc)
 
-else_is : (a f o t u x b d e j r : List Tok) → a ≡ f ++ b
+else_is : (a f o t u x b d e j r : List Token) → a ≡ f ++ b
     → b ≡ o ++ (LParen ∷ keyword (codes "then") ∷ d)
     → d ≡ t ++ (RParen ∷ LParen ∷ keyword (codes "else") ∷ e) → e ≡ u ++ (RParen ∷ RParen ∷ j)
     → j ≡ x ++ r → LParen ∷ a ≡ (LParen ∷ (f ++ (o
@@ -96,7 +95,7 @@ else_is : (a f o t u x b d e j r : List Tok) → a ≡ f ++ b
     ∷ (t ++ (RParen ∷ LParen ∷ keyword (codes "else") ∷ (u ++ (RParen ∷ RParen ∷ x)))))))) ++ r
 else_is a f o t u x b d e j r e1 e2 e3 e4 e5 = rw (e1, e2, e3, e4, e5) (simp append_assoc)
 
-grouped : (i : Instr) (ts a b d r : List Tok) → ts ≡ LParen ∷ a → reads i a b
+grouped : (i : InstructionModel) (ts a b d r : List Token) → ts ≡ LParen ∷ a → reads i a b
     → Between b (RParen ∷ d) → Between d r → Between ts r
 grouped i ts a b d r e h y x =
     let f = reads_front i a b h in
@@ -105,7 +104,7 @@ grouped i ts a b d r e h y x =
     (e ∙ group_is a f.0 y.front x.front d b r f.1 y.is x.is)
     (let z = ap opens e in let w = ap closes e in omega (arith, z, w, v, y.balanced, x.balanced))
 
-pub lists_between : (xs : Items) (ts r : List Tok) → lists xs ts r → Between ts r
+pub lists_between : (xs : Items) (ts r : List Token) → lists xs ts r → Between ts r
 lists_between Nil ts r l = is_between ts [] r l (let e : ts ≡ r = l in rw e (omega arith))
 lists_between (Plain i xs) ts r (m, h, l) =
     let f = reads_front i ts m h in
@@ -144,5 +143,9 @@ lists_between (IfElse i ops th el xs) ts r (a, b, d, e, j, q, s, h, g, lo, lt, l
 lists_between (Hinted v xs) ts r (d, e, lt, g, l) =
     let k = lists_between xs d r l in
     is_between ts (LParen ∷ hint_name ∷ String (v ∷ []) ∷ RParen ∷ k.front) r
-    (e ∙ ap (λ (u : List Tok). LParen ∷ hint_name ∷ String (v ∷ []) ∷ RParen ∷ u) k.is)
+    (e ∙ ap (λ (u : List Token). LParen ∷ hint_name ∷ String (v ∷ []) ∷ RParen ∷ u) k.is)
     (let z = ap opens e in let y = ap closes e in omega (arith, z, y, k.balanced))
+
+-- an `if` can follow a hint
+pub if_branch : (i : InstructionModel) → sort i ≡ IsIf → is_branch i ≡ true
+if_branch i e = grind arith

@@ -1,71 +1,76 @@
 -- Laws: tokens that spell an expression, or a folded instruction, before one rest spell it before each alike rest.
-use Rattle.std.specs.Prelude.{◌≡◌, true, List, [], ◌∷◌, ◌++◌, codes, refl}
-use Rattle.std.proofs.Common.{ap, sym, ◌∙◌, append_assoc, subst}
-use Rattle.std.proofs.lemmas.List.{append_cancel_right}
-use Rattle.wat_tokens.specs.Token.{Tok, LParen, RParen, String}
-use Rattle.wat_tokens.specs.Asks.{everything, Alike}
+use Rattle.std.proofs.Common.{◌≡◌, true, List, [], ◌∷◌, ◌++◌, codes, refl, ap, sym, ◌∙◌, append_assoc, subst}
+use Rattle.wat_instr.specs.Prelude.{append_cancel_right, Token, LParen, RParen, String, everything, Alike, InstructionModel, instruction}
 use Rattle.wat_tokens.specs.Laws.Moves.{all_asked}
 use Rattle.wat_tokens.specs.Test.{at_ends}
-use Rattle.wat_instr.specs.Instruction.{Instr, instruction}
 use Rattle.wat_expr.specs.Items.{reads, keyword, hint_name, Items, Nil, Plain, Folded, Block, IfThen, IfElse, Hinted, lists}
-use Rattle.wat_expr.specs.Expression.{Expr, expression_spells}
+use Rattle.wat_expr.specs.Expression.{ExpressionModel, expression_spells}
 use Rattle.wat_expr.specs.Folded.{Groups, NoGroup, Group, groups, folded_spells}
 
 -- ---- the same tokens before t and before u
 
 -- ts is `front` and then t; `new` is `front` and then u
-record Beside (t u ts : List Tok) : Type 0 where
-  front : List Tok
-  new : List Tok
+record Beside (t u ts : List Token) : Type 0 where
+  front : List Token
+  new : List Token
   old_is : ts ≡ front ++ t
   new_is : new ≡ front ++ u
 
-abbrev at_once : (t u ts : List Tok) → ts ≡ t → Beside t u ts
+abbrev at_once : (t u ts : List Token) → ts ≡ t → Beside t u ts
 at_once t u ts e = record { front = []; new = u; old_is = e; new_is = refl }
 
 -- the same with tokens c in front
-abbrev behind : {t u m : List Tok} (ts c : List Tok) → ts ≡ c ++ m → Beside t u m → Beside t u ts
+abbrev behind : {t u m : List Token} (ts c : List Token) → ts ≡ c ++ m → Beside t u m
+    → Beside t u ts
 behind {t = t} {u = u} ts c e b = record {
   front = c ++ b.front;
   new = c ++ b.new;
-  old_is = e ∙ ap (λ (x : List Tok). c ++ x) b.old_is ∙ sym (append_assoc c b.front t);
-  new_is = ap (λ (x : List Tok). c ++ x) b.new_is ∙ sym (append_assoc c b.front u);
+  old_is = e ∙ ap (λ (x : List Token). c ++ x) b.old_is ∙ sym (append_assoc c b.front t);
+  new_is = ap (λ (x : List Token). c ++ x) b.new_is ∙ sym (append_assoc c b.front u);
 }
 
-abbrev further : {t u m ts : List Tok} (b : Beside t u m) → Beside m b.new ts → Beside t u ts
+abbrev further : {t u m ts : List Token} (b : Beside t u m) → Beside m b.new ts → Beside t u ts
 further {t = t} {u = u} b c = record {
   front = c.front ++ b.front;
   new = c.new;
-  old_is = c.old_is ∙ ap (λ (x : List Tok). c.front ++ x) b.old_is ∙ sym (append_assoc c.front b.front t);
-  new_is = c.new_is ∙ ap (λ (x : List Tok). c.front ++ x) b.new_is ∙ sym (append_assoc c.front b.front u);
+  old_is = c.old_is ∙ ap (λ (x : List Token). c.front ++ x) b.old_is ∙ sym (append_assoc c.front
+      b.front t);
+  new_is = c.new_is ∙ ap (λ (x : List Token). c.front ++ x) b.new_is ∙ sym (append_assoc c.front
+      b.front u);
 }
 
-alike_behind : (c t u : List Tok) → Alike everything t u → Alike everything (c ++ t) (c ++ u)
+alike_behind : (c t u : List Token) → Alike everything t u → Alike everything (c ++ t) (c ++ u)
 alike_behind c t u a = λ e. rw (← append_assoc e c t, ← append_assoc e c u) (a (e ++ c))
 
-alike_beside : {t u ts : List Tok} → Alike everything t u → (b : Beside t u ts) → Alike everything ts b.new
+alike_beside : {t u ts : List Token} → Alike everything t u → (b : Beside t u ts)
+    → Alike everything ts b.new
 alike_beside {t = t} {u = u} a b = rw (b.old_is, b.new_is) (alike_behind b.front t u a)
 
 -- ---- relations between tokens and the rest after a value
 
 -- P relates the same front before u to u, if it relates the front before t to t
-abbrev Moves : (List Tok → List Tok → Type 0) → Type 0
-Moves P = (ts t u : List Tok) → Alike everything t u → P ts t → (b : Beside t u ts) × P b.new u
+abbrev Moves : (List Token → List Token → Type 0) → Type 0
+Moves P = (ts t u : List Token) → Alike everything t u → P ts t → (b : Beside t u ts) × P b.new u
 
 -- the same for P up to the tokens c, if m follows c and ends in t
-moves_before : {P : List Tok → List Tok → Type 0} {t u m : List Tok} → Moves P → (ts c : List Tok) → Alike everything t u → (b : Beside t u m) → P ts (c ++ m) → (d : Beside t u ts) × P d.new (c ++ b.new)
+moves_before : {P : List Token → List Token → Type 0} {t u m : List Token} → Moves P
+    → (ts c : List Token) → Alike everything t u → (b : Beside t u m) → P ts (c ++ m)
+    → (d : Beside t u ts) × P d.new (c ++ b.new)
 moves_before {m = m} p ts c a b s =
     let d = behind (c ++ m) c refl b in
     let y = p ts (c ++ m) (c ++ b.new) (alike_beside a d) s in
     (further d y.0, y.1)
 
-reads_move : (i : Instr) → Moves (reads i)
+reads_move : (i : InstructionModel) → Moves (reads i)
 reads_move i ts t u a (c, e, s) =
     (record { front = c; new = c ++ u; old_is = e; new_is = refl }, (c, refl {a = c ++ u}, instruction.moves i c t u (all_asked instruction.asks [] t u a) s))
 
 -- `(`, an instruction, P, `)`, and then Q
-group_moves : {P Q : List Tok → List Tok → Type 0} {t u : List Tok} (i : Instr) → Moves P → Moves Q → (ts a b d : List Tok) → Alike everything t u → ts ≡ LParen ∷ a → reads i a b → P b (RParen ∷ d) → Q d t
-    → (g : Beside t u ts) × (v w x : List Tok) × (g.new ≡ LParen ∷ v) × reads i v w × P w (RParen ∷ x) × Q x u
+group_moves : {P Q : List Token → List Token → Type 0} {t u : List Token} (i : InstructionModel)
+    → Moves P → Moves Q → (ts a b d : List Token) → Alike everything t u → ts ≡ LParen ∷ a
+    → reads i a b → P b (RParen ∷ d) → Q d t
+    → (g : Beside t u ts) × (v w x : List Token) × (g.new ≡ LParen ∷ v) × reads i v w
+    × P w (RParen ∷ x) × Q x u
 group_moves {t = t} {u = u} i p q ts a b d al e h sp sq =
     let x = q d t u al sq in
     let y = moves_before p b (RParen ∷ []) al x.0 sp in
@@ -112,17 +117,20 @@ groups_move (Group i gs hs) ts t u al (a, b, d, e, h, ly, lx) =
 
 -- ---- the productions
 
-module _ {P : List Tok → List Tok → Type 0} (p : Moves P) where
+module _ {P : List Token → List Token → Type 0} (p : Moves P) where
   -- the tokens before t are c
-  front_moves : (c t u : List Tok) → Alike everything t u → P (c ++ t) t → P (c ++ u) u
+  front_moves : (c t u : List Token) → Alike everything t u → P (c ++ t) t → P (c ++ u) u
   front_moves c t u a s =
       let x = p (c ++ t) t u a s in
-      subst (λ (w : List Tok). P w u) (x.0.new_is ∙ ap (λ (y : List Tok). y ++ u) (sym (append_cancel_right c x.0.front t x.0.old_is))) x.1
+      subst (λ (w : List Token). P w u) (x.0.new_is ∙ ap (λ (y : List Token). y ++ u) (sym
+      (append_cancel_right c x.0.front t x.0.old_is))) x.1
 
-pub expression_moves : (v : Expr) (c t u : List Tok) → Alike everything t u → expression_spells v c t → expression_spells v c u
+pub expression_moves : (v : ExpressionModel) (c t u : List Token) → Alike everything t u
+    → expression_spells v c t → expression_spells v c u
 expression_moves v c t u a (xs, l, k, e) = (xs, front_moves (lists_move xs) c t u a l, a [] true at_ends k, e)
 
-pub folded_moves : (v : Expr) (c t u : List Tok) → Alike everything t u → folded_spells v c t → folded_spells v c u
+pub folded_moves : (v : ExpressionModel) (c t u : List Token) → Alike everything t u
+    → folded_spells v c t → folded_spells v c u
 folded_moves v c t u al (i, gs, (a, b, e, h, l), k) =
     let m = front_moves (groups_move (Group i gs NoGroup)) c t u al (a, b, t, e, h, l, refl) in
-    (i, gs, (m.0, m.1, m.3, m.4, subst (λ (w : List Tok). groups gs m.1 (RParen ∷ w)) m.6 m.5), k)
+    (i, gs, (m.0, m.1, m.3, m.4, subst (λ (w : List Token). groups gs m.1 (RParen ∷ w)) m.6 m.5), k)

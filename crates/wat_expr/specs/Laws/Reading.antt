@@ -1,27 +1,11 @@
 -- Laws: the reader of items agrees with `lists`.
-use Rattle.std.specs.Prelude.{◌≡◌, ℕ, zero, suc, ◌<◌, ◌≤◌, nat_lt, true, false, if◌then◌else◌, List}
-use Rattle.std.specs.Prelude.{[], ◌∷◌, ◌++◌, length, Some, None, codes, refl}
-use Rattle.std.proofs.Common.{ap, subst, sym, ◌∙◌, arith}
-use Rattle.std.proofs.lemmas.Bool.{lt-ltb, ltb-true}
-use Rattle.std.specs.Str.{bytes_eq}
-use Rattle.std.specs.Cmp.Lexicographic.{bytes_decides}
-use Rattle.wat_tokens.specs.Token.{Tok, LParen, RParen, Keyword, Annotation, String}
-use Rattle.wat_tokens.specs.Parens.{AreBalanced}
-use Rattle.wat_tokens.specs.Production.{Read, Front, bind, some_of, none_of}
-use Rattle.wat_tokens.specs.Tests.{ends}
-use Rattle.wat_tokens.specs.Laws.Production.{some_is, none_is_not, by_test, bind_some}
-use Rattle.wat_tokens.specs.Laws.Parens.{opens-append, closes-append}
-use Rattle.wat_instr.specs.Instruction.{Instr, instruction}
-use Rattle.wat_expr.specs.Items.{Sort, sort, IsBlock, IsIf, IsOther, reads, keyword, hint_name}
-use Rattle.wat_expr.specs.Items.{Items, Nil, Plain, Folded, Block, IfThen, IfElse, Hinted}
-use Rattle.wat_expr.specs.Items.{AreGroups, BeginsWithBranch, lists}
+use Rattle.std.proofs.Common.{◌≡◌, ℕ, zero, suc, ◌<◌, ◌≤◌, nat_lt, true, false, if◌then◌else◌, List, [], ◌∷◌, ◌++◌, length, Some, None, codes, refl, ap, subst, sym, ◌∙◌, arith}
+use Rattle.wat_instr.specs.Prelude.{lt-ltb, ltb-true, bytes_eq, bytes_decides, Token, LParen, RParen, Keyword, Annotation, String, AreBalanced, Read, Front, bind, some_of, none_of, ends, some_is, none_is_not, by_test, bind_some, opens-append, closes-append, InstructionModel, instruction}
+use Rattle.wat_expr.specs.Items.{Sort, sort, IsBlock, IsIf, IsOther, reads, keyword, hint_name, Items, Nil, Plain, Folded, Block, IfThen, IfElse, Hinted, AreGroups, BeginsWithBranch, lists}
 use Rattle.wat_expr.specs.Facts.{Stops}
-use Rattle.wat_expr.specs.Expression.{Expr, value_of, expression_spells}
-use Rattle.wat_expr.specs.Reading.{are_groups, begins_branch, closed, opened, more_by, group_by}
-use Rattle.wat_expr.specs.Reading.{arms_by, if_by, sort_by, hint_by, paren_by, items_by, items_at}
-use Rattle.wat_expr.specs.Reading.{to_the_end, expression_reads}
-use Rattle.wat_expr.specs.Laws.Facts.{reads_of, reads_not_then, read_of, word_front, reads_nothing}
-use Rattle.wat_expr.specs.Laws.Facts.{reads_shorter, lists_between}
+use Rattle.wat_expr.specs.Expression.{ExpressionModel, value_of, expression_spells}
+use Rattle.wat_expr.specs.Reading.{are_groups, begins_branch, closed, opened, more_by, group_by, arms_by, if_by, sort_by, hint_by, paren_by, items_by, items_at, to_the_end, expression_reads}
+use Rattle.wat_expr.specs.Laws.Facts.{reads_of, reads_not_then, read_of, word_front, reads_nothing, reads_shorter, lists_between}
 
 -- ---- read items are listed
 
@@ -43,16 +27,17 @@ begins_branch_so (IfThen i ops th xs) e = tt
 begins_branch_so (IfElse i ops th el xs) e = tt
 begins_branch_so (Hinted v xs) e = absurd cc
 
-pub shut_is : (t : List Tok) (x : Unit {0} × List Tok) → closed t ≡ Some x → t ≡ RParen ∷ x.1
+pub shut_is : (t : List Token) (x : Unit {0} × List Token) → closed t ≡ Some x → t ≡ RParen ∷ x.1
 shut_is [] x e = none_is_not x e
-shut_is (RParen ∷ t) x e = ap (λ (u : Unit {0} × List Tok). RParen ∷ u.1) (some_is (tt, t) x e)
+shut_is (RParen ∷ t) x e = ap (λ (u : Unit {0} × List Token). RParen ∷ u.1) (some_is (tt, t) x e)
 shut_is (_ ∷ t) x e = none_is_not x e
 
-shut_twice : (t : List Tok) (x y : Unit {0} × List Tok) → closed t ≡ Some x → closed x.1 ≡ Some y
+shut_twice : (t : List Token) (x y : Unit {0} × List Token) → closed t ≡ Some x
+    → closed x.1 ≡ Some y
     → t ≡ RParen ∷ RParen ∷ y.1
-shut_twice t x y e f = shut_is t x e ∙ ap (λ (u : List Tok). RParen ∷ u) (shut_is x.1 y f)
+shut_twice t x y e f = shut_is t x e ∙ ap (λ (u : List Token). RParen ∷ u) (shut_is x.1 y f)
 
-opened_is : (w : List ℕ) (t : List Tok) (x : Unit {0} × List Tok) → opened w t ≡ Some x
+opened_is : (w : List ℕ) (t : List Token) (x : Unit {0} × List Token) → opened w t ≡ Some x
     → t ≡ LParen ∷ keyword w ∷ x.1
 opened_is w [] x e = none_is_not x e
 opened_is w (LParen ∷ []) x e = none_is_not x e
@@ -60,31 +45,32 @@ opened_is w (LParen ∷ Keyword k ∷ t) x e =
     by_test (bytes_eq k w)
     (λ h. (let e2 : some_of (tt, t) ≡ some_of x = rw h at e in
     let s = (bytes_decides k w).0 h in
-    rw s (ap (λ (u : Unit {0} × List Tok). LParen ∷ Keyword w ∷ u.1) (some_is (tt, t) x e2))))
+    rw s (ap (λ (u : Unit {0} × List Token). LParen ∷ Keyword w ∷ u.1) (some_is (tt, t) x e2))))
     (λ h. (let e2 : none_of {A = Unit {0}} ≡ some_of x = rw h at e in none_is_not x e2))
 opened_is w (LParen ∷ _ ∷ t) x e = none_is_not x e
 opened_is w (_ ∷ t) x e = none_is_not x e
 
-abbrev Sound : (List Tok → Read Items) → Type 0
-Sound rec = (t : List Tok) (x : Items × List Tok) → rec t ≡ Some x → lists x.0 t x.1
+abbrev Sound : (List Token → Read Items) → Type 0
+Sound rec = (t : List Token) (x : Items × List Token) → rec t ≡ Some x → lists x.0 t x.1
 
 -- the value and the rest that were read
-abbrev Is : Items → List Tok → Items × List Tok → Type 0
+abbrev Is : Items → List Token → Items × List Token → Type 0
 Is xs r x = (xs, r) ≡ x
 
-is_listed : (ts : List Tok) (xs : Items) (r : List Tok) (x : Items × List Tok) → Is xs r x
+is_listed : (ts : List Token) (xs : Items) (r : List Token) (x : Items × List Token) → Is xs r x
     → lists xs ts r → lists x.0 ts x.1
-is_listed ts xs r x e l = subst (λ (u : Items × List Tok). lists u.0 ts u.1) e l
+is_listed ts xs r x e l = subst (λ (u : Items × List Token). lists u.0 ts u.1) e l
 
-module _ (rec : List Tok → Read Items) (good : Sound rec) where
-  more_sound : (f : Items → Items) (t : List Tok) (x : Items × List Tok) → more_by rec f t ≡ Some x
-      → (xs : Items) × (r : List Tok) × lists xs t r × Is (f xs) r x
+module _ (rec : List Token → Read Items) (good : Sound rec) where
+  more_sound : (f : Items → Items) (t : List Token) (x : Items × List Token)
+      → more_by rec f t ≡ Some x
+      → (xs : Items) × (r : List Token) × lists xs t r × Is (f xs) r x
   more_sound f t x e =
       let p = bind_some (rec t) (λ xs r. some_of (f xs, r)) x e in
       (p.0.0, p.0.1, good t p.0 p.1, some_is (f p.0.0, p.0.1) x p.2)
 
-  group_sound : (f : Items → Items → Items) (t : List Tok) (x : Items × List Tok)
-      → group_by rec f t ≡ Some x → (ys xs : Items) × (d r : List Tok) × lists ys t (RParen ∷ d)
+  group_sound : (f : Items → Items → Items) (t : List Token) (x : Items × List Token)
+      → group_by rec f t ≡ Some x → (ys xs : Items) × (d r : List Token) × lists ys t (RParen ∷ d)
       × lists xs d r × Is (f ys xs) r x
   group_sound f t x e =
       let p = bind_some (rec t) (λ ys u. bind (closed u) (λ _ d. more_by rec (f ys) d)) x e in
@@ -94,15 +80,16 @@ module _ (rec : List Tok → Read Items) (good : Sound rec) where
         m.0,
         q.0.1,
         m.1,
-        subst (λ (u : List Tok). lists p.0.0 t u) (shut_is p.0.1 q.0 q.1)
+        subst (λ (u : List Token). lists p.0.0 t u) (shut_is p.0.1 q.0 q.1)
             (good t p.0 p.1),
         m.2,
         m.3,
       )
 
-  module _ (i : Instr) (ops th : Items) (a b d : List Tok) (k : sort i ≡ IsIf) (h : reads i a b)
+  module _ (i : InstructionModel) (ops th : Items) (a b d : List Token) (k : sort i ≡ IsIf) (h :
+      reads i a b)
       (g : AreGroups ops) (lo : lists ops b (LParen ∷ keyword (codes "then") ∷ d)) where
-    else_sound : (t : List Tok) (x : Items × List Tok) → lists th d (RParen ∷ t)
+    else_sound : (t : List Token) (x : Items × List Token) → lists th d (RParen ∷ t)
         → bind (opened (codes "else") t)
         (λ _ e. bind (rec e) (λ el u. bind (closed u)
         (λ _ v. bind (closed v) (λ _ d. more_by rec (IfElse i ops th el) d)))) ≡ Some x
@@ -130,13 +117,13 @@ module _ (rec : List Tok → Read Items) (good : Sound rec) where
           h,
           g,
           lo,
-          subst (λ (u : List Tok). lists th d (RParen ∷ u))
+          subst (λ (u : List Token). lists th d (RParen ∷ u))
               o lt,
-          subst (λ (u : List Tok). lists q.0.0 p.0.1 u) c (good p.0.1 q.0 q.1),
+          subst (λ (u : List Token). lists q.0.0 p.0.1 u) c (good p.0.1 q.0 q.1),
           m.2,
         )
 
-    arms_sound : (t : List Tok) (x : Items × List Tok) → lists th d (RParen ∷ t)
+    arms_sound : (t : List Token) (x : Items × List Token) → lists th d (RParen ∷ t)
         → arms_by rec i ops th t ≡ Some x → lists x.0 (LParen ∷ a) x.1
     arms_sound (RParen ∷ e) x lt q =
         let m = more_sound (IfThen i ops th) e x q in
@@ -145,7 +132,8 @@ module _ (rec : List Tok → Read Items) (good : Sound rec) where
     arms_sound [] x lt q = none_is_not x q
     arms_sound (t ∷ ts) x lt q = else_sound (t ∷ ts) x lt q
 
-  if_sound : (i : Instr) (a b : List Tok) (x : Items × List Tok) → sort i ≡ IsIf → reads i a b
+  if_sound : (i : InstructionModel) (a b : List Token) (x : Items × List Token) → sort i ≡ IsIf
+      → reads i a b
       → if_by rec i b ≡ Some x → lists x.0 (LParen ∷ a) x.1
   if_sound i a b x k h e =
       let p = bind_some (rec b) (λ ops u. if are_groups ops then bind (opened (codes "then") u)
@@ -161,13 +149,14 @@ module _ (rec : List Tok → Read Items) (good : Sound rec) where
       (λ th v. bind (closed v) (λ _ w. arms_by rec i p.0.0 th w)) x q.2 in
       let z = bind_some (closed s.0.1) (λ _ w. arms_by rec i p.0.0 s.0.0 w) x s.2 in
       arms_sound i p.0.0 s.0.0 a b q.0.1 k h (are_groups_so p.0.0 g)
-      (subst (λ (u : List Tok). lists p.0.0 b u) (opened_is (codes "then") p.0.1 q.0 q.1)
+      (subst (λ (u : List Token). lists p.0.0 b u) (opened_is (codes "then") p.0.1 q.0 q.1)
       (good b p.0 p.1))
-      z.0.1 x (subst (λ (u : List Tok). lists s.0.0 q.0.1 u) (shut_is s.0.1 z.0 z.1)
+      z.0.1 x (subst (λ (u : List Token). lists s.0.0 q.0.1 u) (shut_is s.0.1 z.0 z.1)
       (good q.0.1 s.0 s.1)) z.2))
       (λ g. (let e2 : none_of {A = Items} ≡ some_of x = rw g at p.2 in none_is_not x e2))
 
-  sort_sound : (i : Instr) (a b : List Tok) (x : Items × List Tok) (s : Sort) → sort i ≡ s
+  sort_sound : (i : InstructionModel) (a b : List Token) (x : Items × List Token) (s : Sort)
+      → sort i ≡ s
       → reads i a b → sort_by rec s i b ≡ Some x → lists x.0 (LParen ∷ a) x.1
   sort_sound i a b x IsOther k h e =
       let m = group_sound (Folded i) b x e in
@@ -177,7 +166,7 @@ module _ (rec : List Tok → Read Items) (good : Sound rec) where
       is_listed (LParen ∷ a) (Block i m.0 m.1) m.3 x m.6 (a, b, m.2, refl, k, h, m.4, m.5)
   sort_sound i a b x IsIf k h e = if_sound i a b x k h e
 
-  hint_items_sound : (v : ℕ) (d : List Tok) (x : Items × List Tok) → v < 2
+  hint_items_sound : (v : ℕ) (d : List Token) (x : Items × List Token) → v < 2
       → bind (rec d) (λ xs r. if begins_branch xs then Some (Hinted v xs, r) else None) ≡ Some x
       → lists x.0 (LParen ∷ hint_name ∷ String (v ∷ []) ∷ RParen ∷ d) x.1
   hint_items_sound v d x lt e =
@@ -189,7 +178,7 @@ module _ (rec : List Tok → Read Items) (good : Sound rec) where
       (d, refl, lt, begins_branch_so p.0.0 g, good d p.0 p.1)))
       (λ g. (let e2 : none_of {A = Items} ≡ some_of x = rw g at p.2 in none_is_not x e2))
 
-  hint_sound : (t : List Tok) (x : Items × List Tok) → hint_by rec t ≡ Some x
+  hint_sound : (t : List Token) (x : Items × List Token) → hint_by rec t ≡ Some x
       → lists x.0 (LParen ∷ hint_name ∷ t) x.1
   hint_sound (String (v ∷ []) ∷ RParen ∷ d) x e =
       by_test (nat_lt v 2)
@@ -197,7 +186,7 @@ module _ (rec : List Tok → Read Items) (good : Sound rec) where
       (λ g. (let e2 : none_of {A = Items} ≡ some_of x = rw g at e in none_is_not x e2))
   hint_sound _ x e = none_is_not x e
 
-  paren_sound : (t : List Tok) (x : Items × List Tok) → paren_by rec t ≡ Some x
+  paren_sound : (t : List Token) (x : Items × List Token) → paren_by rec t ≡ Some x
       → lists x.0 (LParen ∷ t) x.1
   paren_sound [] x e = none_is_not x e
   paren_sound (Keyword w ∷ t) x e =
@@ -219,14 +208,15 @@ module _ (rec : List Tok → Read Items) (good : Sound rec) where
       (λ g. (let e2 : none_of {A = Items} ≡ some_of x = rw g at e in none_is_not x e2))
   paren_sound (_ ∷ t) x e = none_is_not x e
 
-  plain_sound : (t : List Tok) (x : Items × List Tok)
+  plain_sound : (t : List Token) (x : Items × List Token)
       → bind (instruction.reads t) (λ i m. more_by rec (Plain i) m) ≡ Some x → lists x.0 t x.1
   plain_sound t x e =
       let p = bind_some (instruction.reads t) (λ i m. more_by rec (Plain i) m) x e in
       let m = more_sound (Plain p.0.0) p.0.1 x p.2 in
       is_listed t (Plain p.0.0 m.0) m.1 x m.3 (p.0.1, reads_of p.0.0 t p.0.1 p.1, m.2)
 
-  items_sound : (t : List Tok) (x : Items × List Tok) → items_by rec t ≡ Some x → lists x.0 t x.1
+  items_sound : (t : List Token) (x : Items × List Token) → items_by rec t ≡ Some x
+      → lists x.0 t x.1
   items_sound [] x e = is_listed [] Nil [] x (some_is (Nil, []) x e) refl
   items_sound (RParen ∷ t) x e = is_listed _ Nil (RParen ∷ t) x (some_is (Nil, RParen ∷ t) x e) refl
   items_sound (LParen ∷ t) x e = paren_sound t x e
@@ -257,7 +247,7 @@ so_begins_branch (IfThen i ops th xs) g = refl
 so_begins_branch (IfElse i ops th el xs) g = refl
 so_begins_branch (Hinted v xs) g = absurd g
 
-not_then : (i : Instr) (w : List ℕ) (t m : List Tok) → reads i (Keyword w ∷ t) m
+not_then : (i : InstructionModel) (w : List ℕ) (t m : List Token) → reads i (Keyword w ∷ t) m
     → bytes_eq w (codes "then") ≡ false
 not_then i w t m h =
     by_test (bytes_eq w (codes "then"))
@@ -266,8 +256,8 @@ not_then i w t m h =
     h)))
     (λ g. g)
 
-module _ (rec : List Tok → Read Items) where
-  ended : (r : List Tok) → Stops r → items_by rec r ≡ Some (Nil, r)
+module _ (rec : List Token → Read Items) where
+  ended : (r : List Token) → Stops r → items_by rec r ≡ Some (Nil, r)
   ended [] s = refl
   ended (RParen ∷ r) s = refl
   ended (LParen ∷ Keyword w ∷ r) s = rw ((bytes_decides w (codes "then")).1 s) refl
@@ -275,20 +265,21 @@ module _ (rec : List Tok → Read Items) where
   ended (LParen ∷ _ ∷ r) s = absurd s
   ended (_ ∷ r) s = absurd s
 
-  begins_plain : (i : Instr) (ts m : List Tok) → reads i ts m
+  begins_plain : (i : InstructionModel) (ts m : List Token) → reads i ts m
       → items_by rec ts ≡ more_by rec (Plain i) m
   begins_plain i [] m h = absurd (reads_nothing i m h)
   begins_plain i (Keyword w ∷ t) m h = rw (read_of i (Keyword w ∷ t) m h) refl
   begins_plain i (k ∷ t) m h = absurd (word_front i k t m h)
 
-  begins_group : (i : Instr) (a b : List Tok) → reads i a b
+  begins_group : (i : InstructionModel) (a b : List Token) → reads i a b
       → items_by rec (LParen ∷ a) ≡ sort_by rec (sort i) i b
   begins_group i [] b h = absurd (reads_nothing i b h)
   begins_group i (Keyword w ∷ t) b h = rw (not_then i w t b h, read_of i (Keyword w ∷ t) b h) refl
   begins_group i (k ∷ t) b h = absurd (word_front i k t b h)
 
 -- the contents of a group, and the rest after its last token, are shorter than all tokens
-group_shorter : (i : Instr) (ys : Items) (n : ℕ) (ts a b : List Tok) (x : Tok) (d : List Tok)
+group_shorter : (i : InstructionModel) (ys : Items) (n : ℕ) (ts a b : List Token) (x : Token) (d :
+    List Token)
     → length ts < suc n → ts ≡ LParen ∷ a → reads i a b → lists ys b (x ∷ d)
     → (length b < n) × (length d < n)
 group_shorter i ys n ts a b x d lt e h ly =
@@ -297,7 +288,7 @@ group_shorter i ys n ts a b x d lt e h ly =
     let y = (lists_between ys b (x ∷ d) ly).shorter in
     (omega arith, omega arith)
 
-pub items_at_complete : (xs : Items) (n : ℕ) (ts r : List Tok) → length ts < n → Stops r
+pub items_at_complete : (xs : Items) (n : ℕ) (ts r : List Token) → length ts < n → Stops r
     → lists xs ts r → items_at n ts ≡ Some (xs, r)
 unfolding items_at
 items_at_complete xs zero ts r lt s l = absurd (omega arith)
@@ -345,12 +336,13 @@ items_at_complete (Hinted v xs) (suc n) ts r lt s (d, e, less, g, l) =
 
 -- ---- the production
 
-pub stops_end : (r : List Tok) → ends r ≡ true → Stops r
+pub stops_end : (r : List Token) → ends r ≡ true → Stops r
 stops_end [] e = tt
 stops_end (RParen ∷ r) e = tt
 stops_end (_ ∷ r) e = absurd cc
 
-pub expression_sound : (t : List Tok) (x : Expr × List Tok) → expression_reads t ≡ Some x
+pub expression_sound : (t : List Token) (x : ExpressionModel × List Token)
+    → expression_reads t ≡ Some x
     → Front expression_spells t x
 expression_sound t x e =
     let p = bind_some (items_at (suc (length t)) t) to_the_end x e in
@@ -358,12 +350,12 @@ expression_sound t x e =
     let b = lists_between p.0.0 t p.0.1 l in
     by_test (ends p.0.1)
     (λ k. (let e2 : some_of (value_of p.0.0, p.0.1) ≡ some_of x = rw k at p.2 in
-    subst (λ (u : Expr × List Tok). Front expression_spells t u)
+    subst (λ (u : ExpressionModel × List Token). Front expression_spells t u)
     (some_is (value_of p.0.0, p.0.1) x e2)
-    (b.front, b.is, (p.0.0, subst (λ (u : List Tok). lists p.0.0 u p.0.1) b.is l, k, refl))))
-    (λ k. (let e2 : none_of {A = Expr} ≡ some_of x = rw k at p.2 in none_is_not x e2))
+    (b.front, b.is, (p.0.0, subst (λ (u : List Token). lists p.0.0 u p.0.1) b.is l, k, refl))))
+    (λ k. (let e2 : none_of {A = ExpressionModel} ≡ some_of x = rw k at p.2 in none_is_not x e2))
 
-pub expression_complete : (v : Expr) (c r : List Tok) → expression_spells v c r
+pub expression_complete : (v : ExpressionModel) (c r : List Token) → expression_spells v c r
     → expression_reads (c ++ r) ≡ Some (v, r)
 expression_complete v c r (xs, l, k, e) =
     rw (
@@ -372,10 +364,12 @@ expression_complete v c r (xs, l, k, e) =
       e,
     ) refl
 
-pub expression_takes : (v : Expr) (c r : List Tok) → expression_spells v c r → 0 ≤ length c
+pub expression_takes : (v : ExpressionModel) (c r : List Token) → expression_spells v c r
+    → 0 ≤ length c
 expression_takes v c r s = omega arith
 
-pub expression_balanced : (v : Expr) (c r : List Tok) → expression_spells v c r → AreBalanced c
+pub expression_balanced : (v : ExpressionModel) (c r : List Token) → expression_spells v c r
+    → AreBalanced c
 expression_balanced v c r (xs, l, k, e) =
     let b = (lists_between xs (c ++ r) r l).balanced in
     omega (arith, b, opens-append c r, closes-append c r)

@@ -1,8 +1,6 @@
 -- Laws: the elements of an element segment.
-use Rattle.std.specs.Prelude.{◌≤◌}
-use Rattle.std.proofs.Common.{lit≤}
-use Rattle.wat_expr.specs.ExpressionProduction.{expression}
-use Rattle.wat_expr.specs.FoldedProduction.{folded_instruction}
+use Rattle.std.proofs.Common.{◌≤◌, lit≤}
+use Rattle.wat_expr.specs.Prelude.{expression, folded_instruction}
 use Rattle.wat_fields.specs.Item.{written_or_folded, item}
 
 pub item_consumes : 1 ≤ item.least

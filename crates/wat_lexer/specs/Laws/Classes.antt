@@ -1,16 +1,12 @@
 -- The class of a run is exact.
-use Rattle.std.proofs.Common.{◌≡◌, ℕ, ◌<◌, ◌≤◌, List, [], ◌∷◌, length, refl, ap, sym, subst, ◌∙◌, arith, append-nil, inl, inr}
-use Rattle.std.specs.Prelude.{Bool, ◌⊎◌, true, false, ◌==◌, ◌&&◌, Option, None, Some}
-use Rattle.std.specs.Str.{IsUtf8, is_utf8}
+use Rattle.std.proofs.Common.{ap, sym, subst, ◌∙◌, arith, append-nil, inl, inr, ◌≡◌, ℕ, ◌<◌, ◌≤◌, List, [], ◌∷◌, length, refl, Bool, ◌⊎◌, true, false, ◌==◌, ◌&&◌, Option, None, Some}
+use Rattle.std.specs.Str.{is_utf8}
 use Rattle.std.proofs.lemmas.Str.{IsUtf8-from_is_utf8, is_utf8-from_IsUtf8}
 use Rattle.std.proofs.lemmas.Bool.{eqb-true, and_parts}
 use Rattle.std.proofs.lemmas.Bool.Decides.{nat_tests}
-use Rattle.wat_lexer.specs.Bytes.{is_idchar, between}
-use Rattle.wat_lexer.specs.Number.{is_integer, read}
-use Rattle.wat_lexer.specs.Token.{Tok, Keyword, Id, Annotation, Integer, String, Reserved}
-use Rattle.wat_lexer.specs.Cut.{Idchars, Classed, IsString}
-use Rattle.wat_lexer.specs.Scan.{string_at, all_idchars, whole, string_of, text_name, name_behind, or_reserved, class, Raw}
-use Rattle.wat_lexer.specs.Laws.Strings.{if_either, some_same, string_sound, string_complete}
+use Rattle.wat_lexer.specs.Prelude.{IsUtf8, is_idchar, between, is_integer, read, Token, Keyword, Id, Annotation, Integer, String, Reserved, Idchars, Classed, IsString, string_at, all_idchars, whole, string_of, text_name, name_behind, or_reserved, class, Raw}
+use Rattle.wat_lexer.specs.Laws.Strings.{some_same, string_sound, string_complete}
+use Rattle.wat_lexer.specs.Laws.Cases.{if_either}
 
 pub idchars_sound : (x : List ℕ) → all_idchars x ≡ true → Idchars x
 unfolding all_idchars
@@ -102,7 +98,8 @@ class_integer behind (b ∷ y) all h =
     let at : (behind && (b == 64)) ≡ false = grind (arith, nat_tests) in
     rw (quote, dollar, at, idchars_complete (b ∷ y) all, letter, h)
 
-pub class_complete : (behind : Bool) (x : List ℕ) (t : Tok) → Classed behind x t → class behind x ≡ t
+pub class_complete : (behind : Bool) (x : List ℕ) (t : Token) → Classed behind x t
+    → class behind x ≡ t
 unfolding class
 class_complete behind x (Keyword k) (e, all, b, y, s, low) = rw (← e, s) (class_keyword behind b y (rw s at all) low)
 class_complete behind x (Id n) (y, e, l, h) = rw (e, name_complete y n (l, h))
@@ -113,7 +110,7 @@ class_complete behind x _ h = absurd h
 
 -- SOUND: the class that is found is the class of the run, or the run is reserved
 
-abbrev pub KnownRight : Bool → List ℕ → Tok → Type 0
+abbrev pub KnownRight : Bool → List ℕ → Token → Type 0
 KnownRight behind x (Reserved k) = x ≡ k
 KnownRight behind x t = Classed behind x t
 
@@ -133,7 +130,7 @@ pub class_right : (behind : Bool) (x : List ℕ) → KnownRight behind x (class 
 unfolding class
 class_right behind [] = refl
 class_right behind (b ∷ t) =
-    let P : Tok → Type 0 = KnownRight behind (b ∷ t) in
+    let P : Token → Type 0 = KnownRight behind (b ∷ t) in
     if_either P (b == 34) _ _ (λ e. string_right behind (b ∷ t) (string_of (b ∷ t)) refl)
     (λ _. if_either P (b == 36) _ _ (λ e. id_right behind b t (name_behind t) (eqb-true b 36 e) refl)
     (λ _. if_either P (behind && (b == 64)) _ _ (λ e. annotation_right behind b t (name_behind t) (and_parts behind (b == 64) e) refl)
@@ -144,13 +141,16 @@ class_right behind (b ∷ t) =
     (λ _. refl)))))
 
 -- a reserved run has no other class
-pub class_reserved : (behind : Bool) (x k : List ℕ) → class behind x ≡ Reserved k → (t : Tok) → Classed behind x t → ⊥
+pub class_reserved : (behind : Bool) (x k : List ℕ) → class behind x ≡ Reserved k → (t : Token)
+    → Classed behind x t → ⊥
 class_reserved behind x k e t h = let same : t ≡ Reserved k = sym (class_complete behind x t h) ∙ e in rw same at h
 
-none_is : (behind : Bool) (x : List ℕ) (t : Tok) → ((t : Tok) → Classed behind x t → ⊥) → KnownRight behind x t → t ≡ Reserved x
+none_is : (behind : Bool) (x : List ℕ) (t : Token) → ((t : Token) → Classed behind x t → ⊥)
+    → KnownRight behind x t → t ≡ Reserved x
 none_is behind x (Reserved n) fits h = rw h
 none_is behind x t fits h = absurd (fits t h)
 
 -- if no class fits, the run is reserved
-pub class_none : (behind : Bool) (x : List ℕ) → ((t : Tok) → Classed behind x t → ⊥) → class behind x ≡ Reserved x
+pub class_none : (behind : Bool) (x : List ℕ) → ((t : Token) → Classed behind x t → ⊥)
+    → class behind x ≡ Reserved x
 class_none behind x fits = none_is behind x (class behind x) fits (class_right behind x)

@@ -1,26 +1,23 @@
 -- The blank or token in front of a text is exact, and so a text has at most one cut.
-use Rattle.std.proofs.Common.{◌≡◌, ℕ, ◌+◌, ◌-◌, ◌<◌, List, [], ◌∷◌, ◌++◌, length, take, refl, ap, sym, subst, ◌∙◌, arith, inl, inr, length-append}
-use Rattle.std.specs.Prelude.{Bool, ◌⊎◌, true, false, ◌==◌, ◌&&◌, not, if◌then◌else◌, Option, None, Some}
-use Rattle.std.proofs.Math.Seq.{take-append_seam}
+use Rattle.std.proofs.Common.{ap, sym, subst, ◌∙◌, arith, inl, inr, length-append, ◌≡◌, ℕ, ◌+◌, ◌-◌, ◌<◌, List, [], ◌∷◌, ◌++◌, length, refl, Bool, ◌⊎◌, true, false, ◌==◌, ◌&&◌, not, if◌then◌else◌, Option, None, Some}
 use Rattle.std.proofs.lemmas.Bool.{eqb-true}
 use Rattle.std.proofs.lemmas.Bool.Decides.{nat_tests}
-use Rattle.wat_lexer.specs.Bytes.{is_idchar, is_space}
-use Rattle.wat_lexer.specs.Number.{is_integer}
-use Rattle.wat_lexer.specs.Token.{Tok, LParen, RParen, Keyword, Id, Annotation, Integer, String, Reserved, Placed, is_open}
-use Rattle.wat_lexer.specs.Cut.{Classed, Token, Inside, Str, Blank, space, line, block, Cuts, done, blank, token, Run, none, idchar, string, Begins, begins, in_no_run, Broken, wrong_char, open_comment, wrong_string, Fails, at_once, behind_blank, behind_token}
+use Rattle.wat_lexer.specs.Prelude.{is_idchar, is_space, is_integer, Token, LParen, RParen, Keyword, Id, Annotation, Integer, String, Reserved, Placed, is_open, Classed, IsToken, Inside, Str, Blank, space, line, block, Cuts, done, blank, token, Run, none, idchar, string, Begins, begins, in_no_run, Broken, wrong_char, open_comment, wrong_string, Fails, Beginning, Nothing, BlankTo, TokenTo, Wrong, front, run_front, comment_front, tail, behind_comment, behind_line, behind_run, class, string_at, RunEnd, Ends, Stuck, Between, Raw}
+use Rattle.wat_lexer.specs.Cut.{at_once, behind_blank, behind_token}
 use Rattle.wat_lexer.specs.declared.fault.Fault.{Fault}
 use Rattle.wat_lexer.specs.declared.fault.Fault.TheVariants.{LexChar}
-use Rattle.wat_lexer.specs.Scan.{Beginning, Nothing, BlankTo, TokenTo, Wrong, front, run_front, comment_front, tail, behind_comment, behind_line, behind_run, class, string_at, RunEnd, Ends, Stuck, Between, Raw}
-use Rattle.wat_lexer.specs.Laws.Strings.{if_either, string_sound, string_complete}
+use Rattle.wat_lexer.specs.Laws.Strings.{string_sound, string_complete}
 use Rattle.wat_lexer.specs.Laws.Pieces.{comment_sound, comment_complete, line_sound, line_complete, RunUpTo, run_sound, run_complete, run_stuck, ends_here, excluded}
 use Rattle.wat_lexer.specs.Laws.Classes.{class_complete, class_right, class_reserved, class_none, KnownRight, no_integer}
+use Rattle.wat_lexer.specs.Laws.Cases.{if_either}
+use Rattle.wat_lexer.specs.Laws.Bytes.{front_of}
 
 -- SOUND
 
 abbrev pub FrontIs : Bool → List ℕ → Beginning → Type 0
 FrontIs behind s Nothing = s ≡ []
 FrontIs behind s (BlankTo rest) = (x : List ℕ) × (s ≡ x ++ rest) × Blank x rest
-FrontIs behind s (TokenTo t rest) = (x : List ℕ) × (s ≡ x ++ rest) × Token behind x rest t
+FrontIs behind s (TokenTo t rest) = (x : List ℕ) × (s ≡ x ++ rest) × IsToken behind x rest t
 FrontIs behind s (Wrong f at) = Broken s f at
 
 comment_right : (behind : Bool) (t : List ℕ) (o : Option (List ℕ)) → behind_comment 0 t ≡ o → FrontIs behind (40 ∷ 59 ∷ t) (comment_front (40 ∷ 59 ∷ t) o)
@@ -35,14 +32,12 @@ begins_not : (t : List ℕ) → begins 59 t ≡ false → Begins (λ b. not (b =
 begins_not [] e = tt
 begins_not (c ∷ t) e = rw e
 
-token_of : (behind : Bool) (x rest : List ℕ) (t : Tok) → class behind x ≡ t → 0 < length x → Run x → Begins in_no_run rest → KnownRight behind x t → Token behind x rest t
+token_of : (behind : Bool) (x rest : List ℕ) (t : Token) → class behind x ≡ t → 0 < length x → Run x
+    → Begins in_no_run rest → KnownRight behind x t → IsToken behind x rest t
 token_of behind x rest LParen c l r k h = absurd h
 token_of behind x rest RParen c l r k h = absurd h
 token_of behind x rest (Reserved n) c l r k h = (h, l, r, k, class_reserved behind x n c)
 token_of behind x rest _ c l r k h = (r, k, h)
-
-front_of : (s x rest : List ℕ) → s ≡ x ++ rest → take (length s - length rest) s ≡ x
-front_of s x rest e = let n : length s - length rest ≡ length x = omega (arith, ap length e, length-append x rest) in rw (n, e) (take-append_seam x rest)
 
 -- a byte that begins no blank, and no token except a run
 abbrev NoPiece : ℕ → List ℕ → Type 0
@@ -105,7 +100,8 @@ front_run behind x (b ∷ rest) none e = in_run_front behind b rest (inr (eqb-tr
 front_run behind x rest (idchar b y e r) _ = in_run_front behind b (y ++ rest) (inl e)
 front_run behind x rest (string y c z s r) _ = in_run_front behind 34 ((y ++ z) ++ rest) (inr refl)
 
-run_token : (behind : Bool) (x rest : List ℕ) (t : Tok) → Run x → 0 < length x → Begins in_no_run rest → class behind x ≡ t → front behind (x ++ rest) ≡ TokenTo t rest
+run_token : (behind : Bool) (x rest : List ℕ) (t : Token) → Run x → 0 < length x
+    → Begins in_no_run rest → class behind x ≡ t → front behind (x ++ rest) ≡ TokenTo t rest
 run_token behind x rest t r l ends c =
     let longer : (length rest == length (x ++ rest)) ≡ false = grind (arith, nat_tests, length-append) in
     rw (front_run behind x rest r (λ z. absurd (omega arith)), run_complete x rest r ends, longer, front_of (x ++ rest) x rest refl, c)
@@ -114,7 +110,7 @@ some_integer : (x : List ℕ) → is_integer x ≡ true → 0 < length x
 some_integer [] h = absurd (let f = sym no_integer ∙ h in cc)
 some_integer (b ∷ x) h = omega arith
 
-classed_some : (behind : Bool) (x : List ℕ) (t : Tok) → Classed behind x t → 0 < length x
+classed_some : (behind : Bool) (x : List ℕ) (t : Token) → Classed behind x t → 0 < length x
 classed_some behind x (Keyword n) (e, all, b, y, s, low) = omega (arith, ap length s)
 classed_some behind x (Id n) (y, s, h, k) = omega (arith, ap length s)
 classed_some behind x (Annotation n) (w, (y, s, h, k)) = omega (arith, ap length s)
@@ -122,7 +118,8 @@ classed_some behind x (Integer n) (e, all, h) = some_integer x h
 classed_some behind x (String n) (y, s, h) = omega (arith, ap length s)
 classed_some behind x _ h = absurd h
 
-pub token_front : (behind : Bool) (text x rest : List ℕ) (t : Tok) → text ≡ x ++ rest → Token behind x rest t → front behind text ≡ TokenTo t rest
+pub token_front : (behind : Bool) (text x rest : List ℕ) (t : Token) → text ≡ x ++ rest
+    → IsToken behind x rest t → front behind text ≡ TokenTo t rest
 unfolding front
 token_front behind text x rest LParen s h = rw (s, h.0, not_begins rest h.1)
 token_front behind text x rest RParen s h = rw (s, h)

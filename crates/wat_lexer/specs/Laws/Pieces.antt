@@ -1,13 +1,11 @@
 -- The scans of comments and runs are exact: they agree with the definitions.
-use Rattle.std.proofs.Common.{◌≡◌, ℕ, zero, suc, ◌+◌, ◌-◌, ◌≤◌, List, [], ◌∷◌, ◌++◌, refl, ap, sym, subst, ◌∙◌, arith, append_assoc, length, length-append}
-use Rattle.std.specs.Prelude.{if◌then◌else◌, option_map, true, false, ◌==◌, ◌&&◌, Option, None, Some, encode_utf8}
-use Rattle.std.specs.List.{AllByRecursion}
+use Rattle.std.proofs.Common.{ap, sym, subst, ◌∙◌, arith, append_assoc, length-append, ◌≡◌, ℕ, zero, suc, ◌+◌, ◌-◌, ◌≤◌, List, [], ◌∷◌, ◌++◌, refl, length, if◌then◌else◌, option_map, true, false, ◌==◌, ◌&&◌, Option, None, Some, encode_utf8}
 use Rattle.std.proofs.lemmas.Bool.{eqb-true, and_parts}
 use Rattle.std.proofs.lemmas.Bool.Decides.{nat_tests}
-use Rattle.wat_lexer.specs.Bytes.{is_idchar, is_line_end}
-use Rattle.wat_lexer.specs.Cut.{Inside, last, closed, opened, other, Begins, Run, none, idchar, string, in_no_run}
-use Rattle.wat_lexer.specs.Scan.{step, string_at, with_front, after_step, behind_comment, behind_run, behind_line, rest_at, run_step, Between, Within, RunEnd, Ends, Stuck, Mode, Raw, Step, Bad, Close, Into, Emit, Encode}
-use Rattle.wat_lexer.specs.Laws.Strings.{if_either, some_same, string_sound, string_complete}
+use Rattle.wat_lexer.specs.Prelude.{AllByRecursion, is_idchar, is_line_end, Inside, last, closed, opened, other, Begins, Run, none, idchar, string, in_no_run, step, string_at, with_front, after_step, behind_comment, behind_run, behind_line, rest_at, Between, RunEnd, Ends, Stuck, Mode, Raw, Step, Bad, Close, Into, Emit, Encode}
+use Rattle.wat_lexer.specs.Scan.{run_step, Within}
+use Rattle.wat_lexer.specs.Laws.Strings.{some_same, string_sound, string_complete}
+use Rattle.wat_lexer.specs.Laws.Cases.{if_either}
 
 -- COMMENTS
 

@@ -1,19 +1,12 @@
 -- The reader of strings is exact: it agrees with the definition of strings.
-use Rattle.std.proofs.Common.{◌≡◌, ℕ, ◌+◌, ◌*◌, ◌<◌, ◌≤◌, List, [], ◌∷◌, ◌++◌, refl, ap, sym, subst, ◌∙◌, arith, append_assoc, append-nil, inl, inr}
-use Rattle.std.specs.Prelude.{Bool, true, false, ◌==◌, ◌&&◌, nat_lt, if◌then◌else◌, Option, None, Some, encode_utf8}
-use Rattle.std.specs.Char.{digit_value}
+use Rattle.std.proofs.Common.{ap, sym, subst, ◌∙◌, arith, append_assoc, append-nil, inl, inr, ◌≡◌, ℕ, ◌+◌, ◌*◌, ◌<◌, ◌≤◌, List, [], ◌∷◌, ◌++◌, refl, Bool, true, false, ◌==◌, ◌&&◌, nat_lt, Option, None, Some, encode_utf8}
 use Rattle.std.proofs.lemmas.Bool.{eqb-true, and_parts, lt-ltb, cases_Bool}
 use Rattle.std.proofs.Math.Nat.{mul-le-mul_left}
 use Rattle.std.proofs.lemmas.Bool.Decides.{nat_tests}
-use lib.Utf8.{scalar}
 use Rattle.std.proofs.Math.Utf8.{scalar_cases}
-use Rattle.wat_lexer.specs.Number.{read}
-use Rattle.wat_lexer.specs.Cut.{is_raw, is_hex, short_escape, Element, raw_byte, short_form, hex_byte, code_point, Str, close, more}
-use Rattle.wat_lexer.specs.Scan.{step, string_at, with_front, emitted, after_step, Mode, Raw, Escape, Byte, Brace, Digits, Step, Bad, Close, Into, Emit, Encode}
-
-pub if_either : {A : Type 0} (P : A → Type 0) (b : Bool) (x y : A) → (b ≡ true → P x) → (b ≡ false → P y) → P (if b then x else y)
-if_either P true x y t f = t refl
-if_either P false x y t f = f refl
+use Rattle.wat_lexer.specs.Prelude.{digit_value, read, is_raw, is_hex, short_escape, Element, raw_byte, short_form, hex_byte, code_point, Str, close, more, step, string_at, with_front, emitted, after_step, Mode, Raw, Escape, Byte, Brace, Digits, Step, Bad, Close, Into, Emit, Encode}
+use lib.Utf8.{scalar}
+use Rattle.wat_lexer.specs.Laws.Cases.{if_either}
 
 -- the bytes of an element that the reader has read, by the reader's mode
 abbrev pub Reached : Mode → List ℕ → Type 0

@@ -1,6 +1,5 @@
 -- Laws: entries of the dylink section: an export, an import.
-use Rattle.std.specs.Prelude.{◌≤◌}
-use Rattle.std.proofs.Common.{lit≤}
+use Rattle.std.proofs.Common.{◌≤◌, lit≤}
 use Rattle.wat_links.specs.Flags.{flag_list, symbol_flags}
 use Rattle.wat_links.specs.DylinkEntries.{export_entry, import_entry}
 

@@ -1,6 +1,5 @@
 -- Laws: one item of an import.
-use Rattle.std.specs.Prelude.{◌≤◌}
-use Rattle.std.proofs.Common.{arith, lit≤}
+use Rattle.std.proofs.Common.{◌≤◌, arith, lit≤}
 use Rattle.wat_links.specs.ImportItem.{typed_item, named_item}
 
 pub typed_item_consumes : 1 ≤ typed_item.least

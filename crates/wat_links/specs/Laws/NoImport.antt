@@ -1,11 +1,6 @@
 -- Laws: if the next tokens begin no inline import, no inline import is read.
-use Rattle.std.proofs.Common.{◌≡◌, ℕ, true, false, List, ◌∷◌, codes, Option, Some, None, refl}
-use Rattle.std.specs.Str.{bytes_eq}
-use Rattle.wat_tokens.specs.Token.{Tok, LParen, RParen, Keyword, String}
-use Rattle.wat_tokens.specs.Tests.{word_only}
-use Rattle.wat_tokens.specs.Strings.{text_in}
-use Rattle.wat_tokens.specs.Laws.Production.{by_test, by_read}
-use Rattle.wat_links.specs.Import.{inline_import, begins_inline_import}
+use Rattle.std.specs.Prelude.{◌≡◌, ℕ, true, false, List, ◌∷◌, codes, Option, Some, None, refl}
+use Rattle.wat_links.specs.Prelude.{bytes_eq, Token, LParen, RParen, Keyword, String, word_only, text_in, by_test, by_read, inline_import, begins_inline_import}
 
 abbrev no_unit : Option (Unit {0})
 no_unit = None
@@ -13,7 +8,7 @@ no_unit = None
 abbrev a_unit : Unit {0} → Option (Unit {0})
 a_unit u = Some u
 
-names_first : (a b c : Tok) (u : Unit {0}) (m n : List ℕ) (r : List Tok)
+names_first : (a b c : Token) (u : Unit {0}) (m n : List ℕ) (r : List Token)
     → word_only (codes "import") a ≡ Some u → text_in b ≡ Some m → text_in c ≡ Some n
     → begins_inline_import (LParen ∷ a ∷ b ∷ c ∷ RParen ∷ r) ≡ true
 names_first (Keyword k) (String s) (String s2) u m n r e f g =
@@ -23,7 +18,7 @@ names_first (Keyword k) (String s) _ u m n r e f g = absurd cc
 names_first (Keyword k) _ c u m n r e f g = absurd cc
 names_first _ b c u m n r e f g = absurd cc
 
-pub no_import : (t : List Tok) → begins_inline_import t ≡ false → inline_import.reads t ≡ None
+pub no_import : (t : List Token) → begins_inline_import t ≡ false → inline_import.reads t ≡ None
 unfolding inline_import
 no_import t e =
     by_read (inline_import.reads t)

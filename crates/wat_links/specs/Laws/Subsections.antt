@@ -1,6 +1,5 @@
 -- Laws: subsections of the dylink section.
-use Rattle.std.specs.Prelude.{◌≤◌}
-use Rattle.std.proofs.Common.{lit≤}
+use Rattle.std.proofs.Common.{◌≤◌, lit≤}
 use Rattle.wat_links.specs.Flags.{flag_list, symbol_flags}
 use Rattle.wat_links.specs.Dylink.{sizes, mem_info_entry, names_entry, lone_entry, subsection}
 use Rattle.wat_links.specs.DylinkEntries.{export_entry, import_entry}

@@ -1,13 +1,6 @@
 -- Laws: words in strict order, and the words of the table.
-use Rattle.std.proofs.Common.{◌≡◌, ℕ, suc, zero, ◌<◌, List, [], ◌∷◌, length, get_or, refl, sym, ◌∙◌}
-use Rattle.std.proofs.Common.{arith, IsTrue, inl, inr}
-use Rattle.std.specs.Cmp.{first_so, second_so}
-use Rattle.std.specs.Ordering.{is_lt, ordering_reverse}
-use Rattle.std.proofs.lemmas.Cmp.{nat_list_cmp_total}
-use Rattle.std.proofs.lemmas.Bool.{cases_lt, false≢true}
-use Rattle.std.proofs.Math.Nat.{eq-or-lt_of_le}
-use Rattle.std.specs.declared.cmp.Ordering.{Ordering}
-use Rattle.std.specs.declared.cmp.Ordering.TheVariants.{Less, Equal, Greater}
+use Rattle.std.proofs.Common.{◌≡◌, ℕ, suc, zero, ◌<◌, List, [], ◌∷◌, length, get_or, refl, sym, ◌∙◌, arith, IsTrue, inl, inr}
+use Rattle.wat_tokens.specs.Laws.Prelude.{first_so, second_so, is_lt, ordering_reverse, nat_list_cmp_total, cases_lt, false≢true, eq-or-lt_of_le, Ordering, Less, Equal, Greater}
 use Rattle.wat_mnemonics.specs.Order.{cmp, rises}
 
 less_from : (o : Ordering) → IsTrue (is_lt o) → o ≡ Less
@@ -45,9 +38,9 @@ pub self_equal : (x : List ℕ) → cmp x x ≡ Equal
 self_equal x = own_reverse (cmp x x) (nat_list_cmp_total.antisymm x x)
 
 -- two indices of a strictly ascending list with the same entry are the same
-pub same_place : (xs : List (List ℕ)) (j k : ℕ) → IsTrue (rises xs) → j < length xs → k < length xs
+pub same_index : (xs : List (List ℕ)) (j k : ℕ) → IsTrue (rises xs) → j < length xs → k < length xs
     → get_or xs j [] ≡ get_or xs k [] → j ≡ k
-same_place xs j k h a b e =
+same_index xs j k h a b e =
     elim (cases_lt j k) [
       | inl p ↦ let f : Less ≡ Equal =
           sym (less_between xs j k h p b) ∙ (rw e (self_equal (get_or xs k []))) in cc

@@ -1,21 +1,13 @@
 -- Laws: the word of an instruction, as a production.
-use Rattle.std.specs.Prelude.{◌≡◌, ℕ, suc, zero, ◌<◌, ◌≤◌, List, [], ◌∷◌, ◌++◌, length, Option}
-use Rattle.std.specs.Prelude.{Some, None, refl}
-use Rattle.std.proofs.Common.{get_or, ap, sym, ◌∙◌, arith, subst}
-use Rattle.std.specs.Str.{bytes_eq}
-use Rattle.std.specs.Cmp.Lexicographic.{bytes_decides}
-use Rattle.wat_tokens.specs.Token.{Tok, Keyword}
-use Rattle.wat_tokens.specs.Parens.{AreBalanced}
-use Rattle.wat_tokens.specs.Production.{Front}
-use Rattle.wat_tokens.specs.Laws.Production.{by_test, some_is, none_is_not}
-use Rattle.wat_tokens.specs.PartSpells.{with_rest}
+use Rattle.std.proofs.Common.{◌≡◌, ℕ, suc, zero, ◌<◌, ◌≤◌, List, [], ◌∷◌, ◌++◌, length, Option, Some, None, refl, get_or, ap, sym, ◌∙◌, arith, subst}
+use Rattle.wat_tokens.specs.Laws.Prelude.{bytes_eq, bytes_decides, Token, Keyword, AreBalanced, Front, by_test, some_is, none_is_not, with_rest}
 use Rattle.wat_mnemonics.specs.Ops.{op_word}
 use Rattle.wat_mnemonics.specs.Order.{first}
-use Rattle.wat_mnemonics.specs.Places.{place}
+use Rattle.wat_mnemonics.specs.TableIndex.{table_index}
 use Rattle.wat_mnemonics.specs.declared.op.Op.{Op}
 use Rattle.wat_mnemonics.specs.Table.{all_ops}
 use Rattle.wat_mnemonics.specs.Word.{first_with, mnemonic_of, mnemonic_spells, mnemonic_reads}
-use Rattle.wat_mnemonics.specs.Laws.Places.{there, place_below, one_word, table_length}
+use Rattle.wat_mnemonics.specs.Laws.TableIndex.{there, index_below, one_word, table_length}
 
 some_op : (x y : Op) → Some x ≡ Some y → x ≡ y
 some_op x y e = cc
@@ -46,34 +38,34 @@ mnemonic_of_is w x e = first_is w all_ops x e
 pub op_of_word : (x : Op) (w : List ℕ) → op_word x ≡ w → mnemonic_of w ≡ Some x
 unfolding mnemonic_of
 op_of_word x w e =
-    let p = first_there w all_ops (place x)
-    (let l = table_length in let b = place_below x in omega arith) (ap op_word (there x) ∙ e)
+    let p = first_there w all_ops (table_index x)
+    (let l = table_length in let b = index_below x in omega arith) (ap op_word (there x) ∙ e)
     in
     p.1 ∙ ap (λ (u : Op). Some u) (one_word p.0 x (first_is w all_ops p.0 p.1 ∙ sym e))
 
 -- ---- the production
 
-found_sound : (w : List ℕ) (o : Option Op) (r : List Tok) (y : Op × List Tok)
+found_sound : (w : List ℕ) (o : Option Op) (r : List Token) (y : Op × List Token)
     → mnemonic_of w ≡ o
     → with_rest o r ≡ Some y → Front mnemonic_spells (Keyword w ∷ r) y
 found_sound w (Some x) r y k e =
-    subst (λ (z : Op × List Tok). Front mnemonic_spells (Keyword w ∷ r) z)
+    subst (λ (z : Op × List Token). Front mnemonic_spells (Keyword w ∷ r) z)
     (some_is (x, r) y e)
     (Keyword w ∷ [], refl, ap (λ (u : List ℕ). Keyword u ∷ []) (sym (mnemonic_of_is w x k)))
 found_sound w None r y k e = none_is_not y e
 
-pub mnemonic_sound : (t : List Tok) (x : Op × List Tok) → mnemonic_reads t ≡ Some x
+pub mnemonic_sound : (t : List Token) (x : Op × List Token) → mnemonic_reads t ≡ Some x
     → Front mnemonic_spells t x
 mnemonic_sound [] x e = none_is_not x e
 mnemonic_sound (Keyword w ∷ t) x e = found_sound w (mnemonic_of w) t x refl e
 mnemonic_sound (_ ∷ t) x e = none_is_not x e
 
-pub mnemonic_complete : (x : Op) (c r : List Tok) → mnemonic_spells x c r
+pub mnemonic_complete : (x : Op) (c r : List Token) → mnemonic_spells x c r
     → mnemonic_reads (c ++ r) ≡ Some (x, r)
 mnemonic_complete x c r s = rw s (rw (op_of_word x (op_word x) refl) refl)
 
-pub mnemonic_takes : (x : Op) (c r : List Tok) → mnemonic_spells x c r → 1 ≤ length c
+pub mnemonic_takes : (x : Op) (c r : List Token) → mnemonic_spells x c r → 1 ≤ length c
 mnemonic_takes x c r s = rw s (omega arith)
 
-pub mnemonic_balanced : (x : Op) (c r : List Tok) → mnemonic_spells x c r → AreBalanced c
+pub mnemonic_balanced : (x : Op) (c r : List Token) → mnemonic_spells x c r → AreBalanced c
 mnemonic_balanced x c r s = rw s refl

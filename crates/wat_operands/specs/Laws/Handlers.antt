@@ -1,6 +1,5 @@
 -- Laws: handler tables.
-use Rattle.std.specs.Prelude.{◌≤◌}
-use Rattle.std.proofs.Common.{arith}
+use Rattle.std.proofs.Common.{◌≤◌, arith}
 use Rattle.wat_operands.specs.Handler.{handler}
 
 pub handler_consumes : 1 ≤ handler.least

@@ -1,13 +1,8 @@
 -- Laws: powers of two, and the test for a power of two.
-use Rattle.std.specs.Prelude.{◌≡◌, ℕ, zero, suc, ◌/◌, ◌%◌, ◌^◌, ◌≤◌, ◌==◌, true, false, count_ones}
-use Rattle.std.specs.Prelude.{refl}
-use Rattle.std.specs.Cmp.{unsigned_Decides}
-use Rattle.std.specs.Int.{is_power_of_two}
+use Rattle.std.proofs.Common.{count_ones, ◌≡◌, ℕ, zero, suc, ◌/◌, ◌%◌, ◌^◌, ◌≤◌, ◌==◌, true, false, refl, arith, ap, ◌∙◌}
 use Rattle.std.specs.Int.Count.{ones, ones_step}
-use Rattle.std.proofs.Common.{arith, ap, ◌∙◌}
 use Rattle.std.proofs.lemmas.Nat.{ones_le_self, zero_from_ones}
-use Rattle.wat_tokens.specs.Laws.Numbers.{doubles, apart}
-use Rattle.wat_tokens.specs.Laws.Production.{by_test}
+use Rattle.wat_types.specs.Prelude.{unsigned_Decides, is_power_of_two, doubles, apart, by_test}
 use Rattle.wat_operands.specs.Power.{IsPowerOfTwo}
 
 halves : (k : ℕ) → 2 ^ suc k / 2 ≡ 2 ^ k

@@ -1,22 +1,11 @@
 -- Laws: tokens that are well formed in parentheses are read again, such as those that begin with
 -- an annotation.
-use Rattle.std.specs.Prelude.{◌≡◌, ℕ, ◌<◌, Bool, true, List, [], ◌∷◌, slice_index, false}
-use Rattle.std.specs.Prelude.{zero, suc, nat_lt}
-use Rattle.std.specs.Str.{bytes_eq}
-use Rattle.std.proofs.Common.{refl, rules, subst}
-use Rattle.std.proofs.lemmas.Bool.{and_parts, ltb-true}
-use Rattle.std.proofs.lemmas.Str.{is_utf8-from_IsUtf8, IsUtf8-from_ascii}
-use Rattle.wat_lexer.specs.Sight.{is_standard}
-use Rattle.wat_lexer.specs.Token.{Tok, Annotation}
-use Rattle.wat_tokens.specs.Parts.{annotation, annotation_token}
-use Rattle.wat_tokens.specs.Production.{Production}
-use Rattle.wat_print.specs.Form.{Form}
-use Rattle.wat_print.specs.Prints.{Nests, Unparses, Inside}
-use Rattle.wat_print.specs.Text.{all_are}
-use Rattle.wat_print.specs.WellFormed.{is_name, WellFormed, nothing, noted}
+use Rattle.std.proofs.Common.{rules, subst, ◌≡◌, ℕ, ◌<◌, Bool, true, List, [], ◌∷◌, slice_index, false, zero, suc, nat_lt, refl}
+use Rattle.wat_types.specs.Prelude.{and_parts, ltb-true, is_utf8-from_IsUtf8, IsUtf8-from_ascii, annotation}
+use Rattle.wat_print.specs.Prelude.{bytes_eq, is_standard, Token, Annotation, Production, Form, Nests, Unparses, Inside, all_are, is_name, WellFormed, nothing, noted, annotation_form}
+use Rattle.wat_tokens.specs.Parts.{annotation_token}
 use Rattle.wat_print.specs.Laws.Form.{led_prints}
 use Rattle.wat_print.specs.Laws.Parts.{well_formed_paren}
-use Rattle.wat_print.specs.Annotation.{annotation_form}
 
 -- ---- names of annotations
 
@@ -57,6 +46,6 @@ module _ {A B : Type 0} {form : Form A} {view : A → B} {g : Production B}
     pub annotated : (n : List ℕ) → is_ascii_name n ≡ true → is_standard n ≡ true
         → bytes_eq n n ≡ true → Inside (annotation_form n form) view (annotation n g)
     annotated n k s e =
-        led_prints p (λ test. (y : List Tok) → test (Annotation n ∷ y) ≡ true) (Annotation n)
+        led_prints p (λ test. (y : List Token) → test (Annotation n ∷ y) ≡ true) (Annotation n)
         (annotation_token n) (λ r. (Annotation n, refl, rw e refl)) (λ test y f. f y)
         (λ a h. noted n (form.spell a) [] (ascii_name n k) s (whole_tokens a h) nothing)

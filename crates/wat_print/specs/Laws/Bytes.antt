@@ -1,14 +1,9 @@
 -- Laws: the bytes of UTF-8.
-use Rattle.std.specs.Prelude.{◌≡◌, ℕ, Bool, ◌+◌, ◌/◌, ◌%◌, ◌<◌, true, List, [], ◌∷◌, ◌++◌}
-use Rattle.std.specs.Prelude.{encode_utf8}
-use Rattle.std.specs.Str.{encode_utf8_all, IsUtf8}
+use Rattle.std.proofs.Common.{◌≡◌, ℕ, Bool, ◌+◌, ◌/◌, ◌%◌, ◌<◌, true, List, [], ◌∷◌, ◌++◌, encode_utf8, refl, subst, arith, inl, inr, ltb}
 use Rattle.std.specs.Char.{IsScalar}
-use Rattle.std.proofs.Common.{refl, subst, arith, inl, inr, ltb}
 use Rattle.std.proofs.Math.Utf8.{scalar, scalars, scalar_cases, encode}
-use Rattle.std.proofs.lemmas.Bool.{and_parts, cond_both}
-use Rattle.std.proofs.lemmas.Bool.Decides.{nat_tests}
-use Rattle.wat_print.specs.Text.{all_are}
-use Rattle.wat_print.specs.WellFormed.{is_byte}
+use Rattle.wat_types.specs.Prelude.{encode_utf8_all, IsUtf8, and_parts, cond_both, nat_tests}
+use Rattle.wat_print.specs.Prelude.{all_are, is_byte}
 
 pub both_are : (test : ℕ → Bool) (x y : List ℕ) → all_are test x ≡ true → all_are test y ≡ true
     → all_are test (x ++ y) ≡ true

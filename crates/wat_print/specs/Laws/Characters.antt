@@ -1,18 +1,10 @@
 -- Laws: characters in a string that is UTF-8.
-use Rattle.std.specs.Prelude.{◌≡◌, ℕ, ◌+◌, ◌/◌, ◌%◌, ◌≤◌, ◌<◌, Bool, true, false, List, [], ◌∷◌}
-use Rattle.std.specs.Prelude.{◌++◌, encode_utf8, flat_map, map}
 use Rattle.std.specs.Char.{is_ascii}
-use Rattle.std.specs.Str.{encode_utf8_all, IsUtf8, chars, is_utf8}
-use Rattle.std.proofs.Common.{refl, ap, sym, ◌∙◌, append_assoc, append-nil, map-id, arith, ltb}
+use Rattle.std.specs.Str.{chars}
+use Rattle.std.proofs.Common.{map-id, ◌≡◌, ℕ, ◌+◌, ◌/◌, ◌%◌, ◌≤◌, ◌<◌, Bool, true, false, List, [], ◌∷◌, ◌++◌, encode_utf8, flat_map, map, refl, ap, sym, ◌∙◌, append_assoc, append-nil, arith, ltb}
 use Rattle.std.proofs.Math.Utf8.{encode}
-use Rattle.std.proofs.lemmas.Bool.{cond_both}
-use Rattle.std.proofs.lemmas.Bool.Decides.{nat_tests}
-use Rattle.std.proofs.lemmas.Grind.{flat_map-append}
-use Rattle.std.proofs.lemmas.Str.{encode_ascii, encodes-append, IsUtf8-from_is_utf8}
-use Rattle.std.proofs.lemmas.Str.{is_utf8-from_IsUtf8, encodes-chars}
-use Rattle.wat_lexer.specs.Cut.{is_raw}
-use Rattle.wat_tokens.specs.Laws.Production.{by_test}
-use Rattle.wat_print.specs.Text.{Page, escape, quoted_as, quoted}
+use Rattle.std.proofs.lemmas.Str.{encode_ascii, encodes-append, encodes-chars}
+use Rattle.wat_print.specs.Laws.Prelude.{encode_utf8_all, IsUtf8, cond_both, nat_tests, flat_map-append, is_utf8-from_IsUtf8, is_raw, Page, escape, quoted_as, quoted}
 
 -- ---- one character
 
@@ -113,7 +105,3 @@ page_closed start p q s cs u all e f =
     ∙ text_quoted s u))
 
 -- ---- bytes
-
--- bytes that aren't UTF-8
-pub no_text : (s : List ℕ) → ¬ (IsUtf8 s) → is_utf8 s ≡ false
-no_text s not = by_test (is_utf8 s) (λ e. absurd (not (IsUtf8-from_is_utf8 s e))) (λ e. e)

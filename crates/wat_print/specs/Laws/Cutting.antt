@@ -1,19 +1,13 @@
 -- Laws: the text of tokens is cut into these tokens.
-use Rattle.std.specs.Prelude.{◌≡◌, ℕ, zero, suc, ◌-◌, Bool, true, false, not, ◌&&◌, ◌||◌, ◌==◌}
-use Rattle.std.specs.Prelude.{List, [], ◌∷◌, ◌++◌, length}
-use Rattle.std.proofs.Common.{refl, ap, subst, sym, ◌∙◌, arith, append_assoc, append-nil}
-use Rattle.std.proofs.lemmas.Bool.{and_parts}
-use Rattle.std.proofs.lemmas.Bool.Decides.{nat_tests}
-use Rattle.wat_lexer.specs.Bytes.{is_idchar, is_space, between}
-use Rattle.wat_lexer.specs.Number.{is_integer, read}
-use Rattle.wat_lexer.specs.Cut.{Begins, in_no_run, Run, Classed, Token, Cuts, done, blank, token}
-use Rattle.wat_lexer.specs.Cut.{space}
-use Rattle.wat_lexer.specs.Token.{Tok, Placed, LParen, RParen, Keyword, Id, Annotation, Integer}
-use Rattle.wat_lexer.specs.Token.{String, Reserved, tokens_of, is_open}
-use Rattle.wat_print.specs.Layout.{LayoutPart, one, line, blanks, lay, tokens_in, Writes}
-use Rattle.wat_print.specs.Text.{all_are, quoted, token_text, gap, Page, blank_page}
-use Rattle.wat_print.specs.WellFormed.{is_keyword, is_name, is_printable}
+use Rattle.std.proofs.Common.{ap, subst, sym, ◌∙◌, arith, append_assoc, append-nil, ◌≡◌, ℕ, zero, suc, ◌-◌, Bool, true, false, not, ◌&&◌, ◌||◌, ◌==◌, List, [], ◌∷◌, ◌++◌, length, refl}
+use Rattle.wat_types.specs.Prelude.{and_parts, nat_tests, between}
+use Rattle.wat_print.specs.Prelude.{is_idchar, is_integer, read, Run, IsToken, Cuts, done, blank, token, Token, Placed, LParen, RParen, Keyword, Id, Annotation, Integer, String, Reserved, tokens_of, is_open, LayoutPart, line, blanks, lay, tokens_in, Writes, all_are, quoted, Page, blank_page, is_keyword, is_name, is_printable}
+use Rattle.wat_lexer.specs.Bytes.{is_space}
+use Rattle.wat_lexer.specs.Cut.{Begins, in_no_run, Classed, space}
+use Rattle.wat_print.specs.Layout.{one}
+use Rattle.wat_print.specs.Text.{token_text, gap}
 use Rattle.wat_print.specs.Laws.Quoted.{quoted_is, idchars_are, idchars_run, string_run, name_is}
+use Rattle.wat_lexer.specs.Laws.Bytes.{idchar_no_mark}
 
 -- ---- the text from the left
 
@@ -41,13 +35,13 @@ lay_laid (line n ∷ r) x false tight = lay_laid r x false tight
 
 -- ---- what may follow
 
-abbrev pub Printable : Bool → Tok → Type 0
+abbrev pub Printable : Bool → Token → Type 0
 Printable behind LParen = Unit {0}
 Printable behind RParen = Unit {0}
 Printable behind (Annotation n) = (behind ≡ true) × (is_name n ≡ true)
 Printable behind t = is_printable t ≡ true
 
-abbrev pub AllPrintable : Bool → List Tok → Type 0
+abbrev pub AllPrintable : Bool → List Token → Type 0
 AllPrintable behind [] = Unit {0}
 AllPrintable behind (t ∷ r) = Printable behind t × AllPrintable (is_open t) r
 
@@ -69,9 +63,6 @@ word_plain (b ∷ k) r h =
     let p = and_parts (between 97 122 b) (all_are is_idchar (b ∷ k)) h in
     grind (arith, nat_tests, p.0)
 
-idchar_plain : (b : ℕ) → is_idchar b ≡ true → not (b == 59) ≡ true
-idchar_plain b h = grind (arith, nat_tests)
-
 no_integer : is_integer [] ≡ true → ⊥
 unfolding read
 no_integer h = cc
@@ -81,9 +72,9 @@ integer_plain [] r h = absurd (no_integer h)
 integer_plain (b ∷ k) r h =
     let p = and_parts (all_are is_idchar (b ∷ k)) (is_integer (b ∷ k)) h in
     let q = and_parts (is_idchar b) (all_are is_idchar k) p.0 in
-    idchar_plain b q.0
+    idchar_no_mark b q.0
 
-pub printable_plain : (behind : Bool) (t : Tok) (r : List ℕ) → Printable behind t
+pub printable_plain : (behind : Bool) (t : Token) (r : List ℕ) → Printable behind t
     → no_semicolon (token_text t ++ r)
 printable_plain behind LParen r h = refl
 printable_plain behind RParen r h = refl
@@ -104,12 +95,13 @@ open_ends lines (one t ∷ r) h = printable_plain true t (laid lines (is_open t)
 
 -- ---- one token
 
-abbrev pub Ends : Tok → List ℕ → Type 0
+abbrev pub Ends : Token → List ℕ → Type 0
 Ends LParen x = no_semicolon x
 Ends RParen x = Unit {0}
 Ends _ x = Begins in_no_run x
 
-piece_ends : (lines : Bool) (t : Tok) (r : List LayoutPart) → AllPrintable (is_open t) (tokens_in r)
+piece_ends : (lines : Bool) (t : Token) (r : List LayoutPart)
+    → AllPrintable (is_open t) (tokens_in r)
     → Ends t (laid lines (is_open t) r)
 piece_ends lines LParen r f = open_ends lines r f
 piece_ends lines RParen r f = tt
@@ -122,8 +114,8 @@ word_is behind (b ∷ k) h =
     let i = idchars_are (b ∷ k) p.1 in
     (idchars_run (b ∷ k) i, (refl, i, b, k, refl, p.0))
 
-token_is : (behind : Bool) (t : Tok) (x : List ℕ) → Printable behind t → Ends t x
-    → Token behind (token_text t) x t
+token_is : (behind : Bool) (t : Token) (x : List ℕ) → Printable behind t → Ends t x
+    → IsToken behind (token_text t) x t
 token_is behind LParen x h e = (refl, e)
 token_is behind RParen x h e = refl
 token_is behind (Keyword k) x h e = let w = word_is behind k h in (w.0, e, w.1)
@@ -140,34 +132,34 @@ token_is behind (Reserved k) x h e = absurd cc
 
 -- ---- all tokens
 
-abbrev pub CutInto : ℕ → Bool → List ℕ → List Tok → Type 0
+abbrev pub CutInto : ℕ → Bool → List ℕ → List Token → Type 0
 CutInto n behind x ts = (ps : List Placed) × Cuts n behind x ps × (tokens_of ps ≡ ts)
 
-cut_token : (n : ℕ) (behind : Bool) (t : Tok) (x : List ℕ) (us : List Tok)
-    → Token behind (token_text t) x t → CutInto n (is_open t) x us
+cut_token : (n : ℕ) (behind : Bool) (t : Token) (x : List ℕ) (us : List Token)
+    → IsToken behind (token_text t) x t → CutInto n (is_open t) x us
     → CutInto n behind (token_text t ++ x) (t ∷ us)
 cut_token n behind t x us h c =
     let y = token_text t ++ x in (
       record { token = t; offset = n - length y } ∷ c.0,
       token n behind y (token_text t) x t c.0 refl h c.1,
-      ap (λ (l : List Tok). t ∷ l) c.2,
+      ap (λ (l : List Token). t ∷ l) c.2,
     )
 
 space_is : (b : ℕ) → (b == 32) || (b == 10) ≡ true → is_space b ≡ true
 space_is b h = grind (arith, nat_tests)
 
-cut_space : (n b : ℕ) (behind : Bool) (x : List ℕ) (us : List Tok)
+cut_space : (n b : ℕ) (behind : Bool) (x : List ℕ) (us : List Token)
     → (b == 32) || (b == 10) ≡ true → CutInto n false x us → CutInto n behind (b ∷ x) us
 cut_space n b behind x us h c =
     (c.0, blank n behind (b ∷ x) (b ∷ []) x c.0 refl (space b x (space_is b h)) c.1, c.2)
 
-cut_blanks : (n k : ℕ) (x : List ℕ) (us : List Tok) → CutInto n false x us
+cut_blanks : (n k : ℕ) (x : List ℕ) (us : List Token) → CutInto n false x us
     → CutInto n false (blanks k ++ x) us
 cut_blanks n zero x us c = c
 cut_blanks n (suc k) x us c = cut_space n 32 false (blanks k ++ x) us refl (cut_blanks n k x us c)
 
 -- the space before a token, if a space is needed
-cut_gap : (n : ℕ) (behind tight : Bool) (t : Tok) (y : List ℕ) (us : List Tok)
+cut_gap : (n : ℕ) (behind tight : Bool) (t : Token) (y : List ℕ) (us : List Token)
     → (behind ≡ true → tight ≡ true) → CutInto n behind y us
     → CutInto n behind (gap tight t ++ y) us
 cut_gap n behind true t y us h c = c
@@ -193,12 +185,12 @@ cut_laid n true false false (line k ∷ r) f h =
     (cut_blanks n k (laid true true r) (tokens_in r) (cut_laid n true false true r f (λ e. refl)))
 cut_laid n false behind tight (line k ∷ r) f h = cut_laid n false behind tight r f h
 
-pub page_cuts : (n : ℕ) (ts : List Tok) (lines : Bool) (q : Page) → AllPrintable false ts
+pub page_cuts : (n : ℕ) (ts : List Token) (lines : Bool) (q : Page) → AllPrintable false ts
     → Writes ts (blank_page lines) q → CutInto n false q.bytes ts
 page_cuts n ts lines q f w =
     let x : q.bytes ≡ laid lines true w.pieces =
     ap (λ (p : Page). p.bytes) w.page ∙ lay_laid w.pieces [] lines true in
-    let g = subst (λ (l : List Tok). AllPrintable false l) (sym w.tokens) f in
-    subst (λ (l : List Tok). CutInto n false q.bytes l) w.tokens
+    let g = subst (λ (l : List Token). AllPrintable false l) (sym w.tokens) f in
+    subst (λ (l : List Token). CutInto n false q.bytes l) w.tokens
     (subst (λ (y : List ℕ). CutInto n false y (tokens_in w.pieces)) (sym x)
     (cut_laid n lines false true w.pieces g (λ e. refl)))

@@ -1,27 +1,13 @@
 -- Laws: definitions of types, and recursion groups, are read again.
-use Rattle.std.specs.Prelude.{◌≡◌, ℕ, true, List, codes, ◌⊎◌}
-use Rattle.std.specs.Str.{bytes_eq}
-use Rattle.std.proofs.Common.{rules, arith, refl, lit≤}
-use Rattle.std.proofs.lemmas.Bool.{and_parts}
-use Rattle.wat_tokens.specs.Index.{at_index}
-use Rattle.wat_tokens.specs.Test.{at_word, second_word}
-use Rattle.wat_types.specs.Define.{func, struct_, array, cont, kind, DefTy, linked, plain_def}
-use Rattle.wat_types.specs.Define.{described, shared_def, maybe_shared, sub_def, type_def, type_}
+use Rattle.std.proofs.Common.{◌≡◌, ℕ, true, List, codes, ◌⊎◌, rules, arith, refl, lit≤}
+use Rattle.wat_print.specs.Laws.Prelude.{bytes_eq, and_parts, at_index, at_word, second_word, type_form, rec_form, pick, Unparses, Prints, is_keyword, flag_prints, seq_prints, made_prints, whole_prints, whole_where, else_prints, option_prints, many_prints, paren_prints, after_prints, label_prints, index_prints, field_prints}
+use Rattle.wat_print.specs.Define.{kind_parts, kind_form, link_form, Core, core_form, shared_form, Sub, def_parts, may_have, sub_form, printable_def, def_form, type_parts}
+use Rattle.wat_print.specs.Form.{before_unit}
+use Rattle.wat_print.specs.Laws.Form.{turn_prints}
+use Rattle.wat_types.specs.Define.{func, struct_, array, cont, kind, TypeDefModel, linked, plain_def, described, shared_def, maybe_shared, sub_def, type_def, type_}
 use Rattle.wat_types.specs.Laws.Define.{grouped_type_consumes}
 use Rattle.wat_types.specs.Recursion.{types, rec}
-use Rattle.wat_print.specs.Define.{kind_parts, kind_form, link_form, Core, core_form, shared_form}
-use Rattle.wat_print.specs.Define.{Sub, def_parts, may_have, sub_form, printable_def, def_form}
-use Rattle.wat_print.specs.Define.{type_parts, type_form, rec_form}
-use Rattle.wat_print.specs.Form.{pick, before_unit}
-use Rattle.wat_print.specs.Prints.{Unparses, Prints}
-use Rattle.wat_print.specs.WellFormed.{is_keyword}
-use Rattle.wat_print.specs.Laws.Form.{flag_prints, seq_prints, made_prints, whole_prints}
-use Rattle.wat_print.specs.Laws.Form.{whole_where, else_prints, option_prints, many_prints}
-use Rattle.wat_print.specs.Laws.Form.{paren_prints, turn_prints, after_prints}
 use Rattle.wat_print.specs.Laws.Function.{function_prints}
-use Rattle.wat_print.specs.Laws.Label.{label_prints}
-use Rattle.wat_print.specs.Laws.Reference.{index_prints}
-use Rattle.wat_print.specs.Laws.Storage.{field_prints}
 use Rattle.wat_print.specs.Laws.Struct.{struct_prints}
 
 -- ---- kinds
@@ -56,7 +42,7 @@ core_prints =
     (seq_prints (link_prints (codes "descriptor") refl refl) kind_prints (search rules))
     (search rules)) plain_def
 
-abbrev def_of : Core ⊎ Core → DefTy
+abbrev def_of : Core ⊎ Core → TypeDefModel
 def_of v = pick (λ c. shared_def (plain_def c)) plain_def v
 
 shared_prints : Unparses shared_form def_of maybe_shared
@@ -66,7 +52,7 @@ shared_prints =
     (made_prints (after_prints (paren_prints core_prints) (codes "shared") refl refl) shared_def)
     core_prints (search rules) (search rules)
 
-abbrev sub_of : Sub ⊎ (Core ⊎ Core) → DefTy
+abbrev sub_of : Sub ⊎ (Core ⊎ Core) → TypeDefModel
 sub_of v = pick (λ s. sub_def (s.0, (s.1.0, def_of s.1.1))) def_of v
 
 sub_prints : Unparses sub_form sub_of type_def

@@ -1,68 +1,47 @@
 -- Laws: the tokens that a form writes are read again, part by part.
-use Rattle.std.specs.Prelude.{◌≡◌, ◌≤◌, ℕ, Bool, true, false, not, ◌&&◌, List, [], ◌∷◌, ◌++◌}
-use Rattle.std.specs.Prelude.{Option, Some, None, flat_map, map, ◌⊎◌, ◌||◌, option_map}
-use Rattle.std.specs.Str.{bytes_eq}
-use Rattle.std.proofs.Common.{refl, ap, subst, sym, ◌∙◌, append_assoc, inl, inr}
-use Rattle.std.proofs.lemmas.Bool.{and_parts}
-use Rattle.wat_lexer.specs.Token.{Tok, LParen, RParen, Keyword}
-use Rattle.wat_tokens.specs.Groups.{paren, group, turn}
-use Rattle.wat_tokens.specs.Many.{many}
-use Rattle.wat_tokens.specs.ManySpells.{many_spells}
-use Rattle.wat_tokens.specs.Parens.{NoParens}
-use Rattle.wat_tokens.specs.Parts.{one, seq, where_else, made, made_where, opt, word, flag}
-use Rattle.wat_tokens.specs.Parts.{after_word}
-use Rattle.wat_tokens.specs.Production.{Production}
-use Rattle.wat_tokens.specs.Restated.{restated}
-use Rattle.wat_tokens.specs.Spelled.{in_parens}
-use Rattle.wat_tokens.specs.Test as asked
-use Rattle.wat_tokens.specs.Test.{run}
-use Rattle.wat_tokens.specs.Tests.{begins_word}
-use Rattle.wat_print.specs.Form.{Test, any, Form, told_form, token_form, OfWord, word_form}
-use Rattle.wat_print.specs.Form.{flag_form, seq_follows, SeqFronts, seq_form, by, by_where, pick}
-use Rattle.wat_print.specs.Form.{else_follows, else_form, option_form, many_form, ParenFronts}
-use Rattle.wat_print.specs.Form.{paren_form, turn_form, after_form, group_form, only_where_form}
-use Rattle.wat_print.specs.Form.{behind_form, unwritten_form, filled_form, some_and, led_form}
-use Rattle.wat_print.specs.Parts.{spell_option, if_some, each, spell_flag}
-use Rattle.wat_print.specs.Prints.{Passes, Closes, Nests, Unparses, Prints, Must, UnparsesAs}
-use Rattle.wat_print.specs.Prints.{Inside}
-use Rattle.wat_print.specs.WellFormed.{WellFormed, nothing, is_given, is_keyword, is_printable}
-use Rattle.wat_print.specs.WellFormed as well_formed
+use Rattle.std.proofs.Common.{ap, subst, sym, ◌∙◌, append_assoc, inl, inr, ◌≡◌, ◌≤◌, ℕ, Bool, true, false, not, ◌&&◌, List, [], ◌∷◌, ◌++◌, Option, Some, None, flat_map, map, ◌⊎◌, ◌||◌, option_map, refl}
+use Rattle.wat_types.specs.Prelude.{and_parts, restated, not-true}
+use Rattle.wat_print.specs.Prelude.{bytes_eq, Token, LParen, RParen, Keyword, paren, group, many, many_spells, NoParens, one, seq, where_else, made, made_where, opt, word, flag, after_word, Production, in_parens, run, begins_word, Test, any, Form, told_form, token_form, word_form, flag_form, seq_form, by, by_where, pick, else_form, option_form, many_form, paren_form, after_form, group_form, only_where_form, behind_form, unwritten_form, filled_form, spell_option, if_some, each, spell_flag, Passes, Nests, Unparses, Prints, Must, Inside, WellFormed, nothing, is_given, is_keyword, is_printable}
+use Rattle.wat_tokens.specs.Groups.{turn}
+use Rattle.wat_print.specs.Form.{OfWord, seq_follows, SeqFronts, else_follows, ParenFronts, turn_form, some_and, led_form}
+use Rattle.wat_print.specs.Prints.{Closes, UnparsesAs}
 use Rattle.wat_print.specs.Laws.Only.{given_parts, OnlyPrintable}
-use Rattle.wat_print.specs.Laws.Parts.{flag_here, word_here, well_formed_one, well_formed_flag}
-use Rattle.wat_print.specs.Laws.Parts.{well_formed_both, well_formed_paren, Spells}
+use Rattle.wat_print.specs.Laws.Parts.{flag_here, word_here, well_formed_one, well_formed_flag, well_formed_both, well_formed_paren, Spells}
+use Rattle.wat_tokens.specs.Test as asked
+use Rattle.wat_print.specs.WellFormed as well_formed
 
 -- ---- how tokens nest
 
-closes_behind : (x z : List Tok) → WellFormed x → Closes z → Closes (x ++ z)
+closes_behind : (x z : List Token) → WellFormed x → Closes z → Closes (x ++ z)
 closes_behind x z n c = (
   x ++ c.0,
   c.1,
-  ap (λ (l : List Tok). x ++ l) c.2 ∙ sym (append_assoc x c.0 (RParen ∷ c.1)),
+  ap (λ (l : List Token). x ++ l) c.2 ∙ sym (append_assoc x c.0 (RParen ∷ c.1)),
   well_formed_both x c.0 n c.3,
   c.4,
 )
 
-nests_inside : (b : Bool) (x z : List Tok) → Nests b x → Closes z → Closes (x ++ z)
+nests_inside : (b : Bool) (x z : List Token) → Nests b x → Closes z → Closes (x ++ z)
 nests_inside true x z n c = closes_behind x z n c
 nests_inside false x z n c = n z c
 
-nests_seq : (a b : Bool) (x y : List Tok) → Nests a x → Nests b y → Nests (a && b) (x ++ y)
+nests_seq : (a b : Bool) (x y : List Token) → Nests a x → Nests b y → Nests (a && b) (x ++ y)
 nests_seq true true x y m n = well_formed_both x y m n
 nests_seq true false x y m n = λ z c. subst Closes (sym (append_assoc x y z))
     (closes_behind x (y ++ z) m (n z c))
 nests_seq false b x y m n = λ z c. subst Closes (sym (append_assoc x y z))
     (m (y ++ z) (nests_inside b y z n c))
 
-nests_left : (a b : Bool) (x : List Tok) → Nests a x → Nests (a && b) x
+nests_left : (a b : Bool) (x : List Token) → Nests a x → Nests (a && b) x
 nests_left true true x n = n
 nests_left true false x n = λ z c. closes_behind x z n c
 nests_left false b x n = n
 
-nests_right : (a b : Bool) (x : List Tok) → Nests b x → Nests (a && b) x
+nests_right : (a b : Bool) (x : List Token) → Nests b x → Nests (a && b) x
 nests_right true b x n = n
 nests_right false b x n = λ z c. nests_inside b x z n c
 
-nests_same : (b : Bool) (x : List Tok) → Nests (b && b) x → Nests b x
+nests_same : (b : Bool) (x : List Token) → Nests (b && b) x → Nests b x
 nests_same true x n = n
 nests_same false x n = n
 
@@ -70,43 +49,39 @@ nests_nothing : (b : Bool) → Nests b []
 nests_nothing true = nothing
 nests_nothing false = λ z c. c
 
-nests_paren : (b : Bool) (x : List Tok) → Nests b x → WellFormed (in_parens x)
+nests_paren : (b : Bool) (x : List Token) → Nests b x → WellFormed (in_parens x)
 nests_paren true x n = well_formed_paren x n
 nests_paren false x n =
     let c = n (RParen ∷ []) ([], [], refl, nothing, nothing) in
-    subst WellFormed (ap (λ (l : List Tok). LParen ∷ l) (sym c.2))
+    subst WellFormed (ap (λ (l : List Token). LParen ∷ l) (sym c.2))
     (well_formed.group c.0 c.1 c.3 c.4)
 
-closes_turn : (x : List Tok) → Closes x → Closes (RParen ∷ LParen ∷ x)
+closes_turn : (x : List Token) → Closes x → Closes (RParen ∷ LParen ∷ x)
 closes_turn x c = (
   [],
   LParen ∷ x,
   refl,
   nothing,
-  subst WellFormed (ap (λ (l : List Tok). LParen ∷ l) (sym c.2))
+  subst WellFormed (ap (λ (l : List Token). LParen ∷ l) (sym c.2))
       (well_formed.group c.0 c.1 c.3 c.4),
 )
 
 -- ---- tests of the first tokens
 
-pub passes_of : (e : Bool) (test : Test) (r : List Tok) → test r ≡ true → Passes e test r
+pub passes_of : (e : Bool) (test : Test) (r : List Token) → test r ≡ true → Passes e test r
 passes_of true test r h = h
 passes_of false test r h = tt
 
 -- the facts of `Must`: F holds, and the part writes a token
-must_pass : {P : Type 0} (e : Bool) (test : Test) (r : List Tok) (F : Type 0) → Must e F
+must_pass : {P : Type 0} (e : Bool) (test : Test) (r : List Token) (F : Type 0) → Must e F
     → (F → Passes e test r → P) → P
 must_pass true test r F m f = absurd m
 must_pass false test r F m f = f m tt
 
-pub not_true : (b : Bool) → not b ≡ true → b ≡ false
-not_true true h = absurd cc
-not_true false h = refl
-
-module _ {N : Bool → List Tok → Type 0} {A B : Type 0} {form : Form A} {view : A → B}
+module _ {N : Bool → List Token → Type 0} {A B : Type 0} {form : Form A} {view : A → B}
     {g : Production B} (p : UnparsesAs N form view g)
   where
-    begun : (test : Test) → Must form.empty (form.Fronts any test) → (a : A) (r : List Tok)
+    begun : (test : Test) → Must form.empty (form.Fronts any test) → (a : A) (r : List Token)
         → form.ready a ≡ true → test (form.spell a ++ r) ≡ true
     begun test m a r h =
         must_pass form.empty test r (form.Fronts any test) m
@@ -114,20 +89,20 @@ module _ {N : Bool → List Tok → Type 0} {A B : Type 0} {form : Form A} {view
 
 -- ---- one token
 
-module _ {A : Type 0} (value_of : Tok → Option A) (flat : NoParens value_of) (token : A → Tok)
+module _ {A : Type 0} (value_of : Token → Option A) (flat : NoParens value_of) (token : A → Token)
     (printable : A → Bool) (Fronts : Test → Test → Type 0)
   where
-    pub one_prints : ((rest test : Test) → Fronts rest test → (v : A) (y : List Tok)
+    pub one_prints : ((rest test : Test) → Fronts rest test → (v : A) (y : List Token)
         → printable v ≡ true → rest y ≡ true → test (token v ∷ y) ≡ true)
         → ((v : A) → printable v ≡ true → is_printable (token v) ≡ true)
         → ((v : A) → printable v ≡ true → value_of (token v) ≡ Some v)
-        → ((t : Tok) (v : A) → is_given t ≡ true → value_of t ≡ Some v → printable v ≡ true)
+        → ((t : Token) (v : A) → is_given t ≡ true → value_of t ≡ Some v → printable v ≡ true)
         → Prints (token_form token printable Fronts) (one value_of flat)
     one_prints front fits reads only = record {
       nests = λ v h. well_formed_one (token v) (fits v h);
       front = λ rest test f v r h k e. front rest test f v r h k;
       here = λ v r h e. (token v, refl, reads v h);
-      only = λ v c r a s. (let k = subst (λ (l : List Tok). each is_given l ≡ true) s.1 a in
+      only = λ v c r a s. (let k = subst (λ (l : List Token). each is_given l ≡ true) s.1 a in
           (v, refl, only s.0 v (and_parts (is_given s.0) true k).0 s.2));
     }
 
@@ -140,7 +115,7 @@ word_prints w k e = record {
   only = λ v c r a s. (tt, refl, refl);
 }
 
-flag_front : (w : List ℕ) (rest test : Test) → OfWord w rest test → (b : Bool) (r : List Tok)
+flag_front : (w : List ℕ) (rest test : Test) → OfWord w rest test → (b : Bool) (r : List Token)
     → rest r ≡ true → test r ≡ true → test (spell_flag w b ++ r) ≡ true
 flag_front w rest test f true r k h = f r k
 flag_front w rest test f false r k h = h
@@ -150,18 +125,18 @@ pub flag_prints : (w : List ℕ) → is_keyword w ≡ true → bytes_eq w w ≡ 
 flag_prints w k e = record {
   nests = λ b h. well_formed_flag w b k;
   front = λ rest test f b r h k p. flag_front w rest test f b r k p;
-  here = λ b r h p. flag_here w b r e (not_true (begins_word w r) p);
+  here = λ b r h p. flag_here w b r e (not-true (begins_word w r) p);
   only = λ b c r a s. (b, refl, refl);
 }
 
 -- ---- one part, and then another
 
-follows_parts : (e : Bool) (f g : Test) (r : List Tok) → seq_follows e f g r ≡ true
+follows_parts : (e : Bool) (f g : Test) (r : List Token) → seq_follows e f g r ≡ true
     → Passes e f r × (g r ≡ true)
 follows_parts true f g r h = and_parts (f r) (g r) h
 follows_parts false f g r h = (tt, h)
 
-seq_front : (d e : Bool) (F G : Test → Test → Type 0) (behind rest test : Test) (x y r : List Tok)
+seq_front : (d e : Bool) (F G : Test → Test → Type 0) (behind rest test : Test) (x y r : List Token)
     → (F behind test → Passes d test (y ++ r) → test (x ++ (y ++ r)) ≡ true)
     → (G rest test → Passes e test r → test (y ++ r) ≡ true)
     → SeqFronts d F G behind rest test → Passes (d && e) test r → test (x ++ (y ++ r)) ≡ true
@@ -171,17 +146,17 @@ seq_front false e F G behind rest test x y r f g h p = f h tt
 module _ {A B C D : Type 0} {form : Form A} {other : Form B} {view : A → C} {also : B → D}
     {g : Production C} {h : Production D} (behind : Test) (p : Unparses form view g)
     (q : Unparses other also h)
-    (passes : (v : B) (r : List Tok) → other.ready v ≡ true → behind (other.spell v ++ r) ≡ true)
+    (passes : (v : B) (r : List Token) → other.ready v ≡ true → behind (other.spell v ++ r) ≡ true)
   where
     front_of : (rest test : Test)
         → SeqFronts form.empty form.Fronts other.Fronts behind rest test → (v : A × B)
-        (r : List Tok)
+        (r : List Token)
         → form.ready v.0 && other.ready v.1 ≡ true → rest r ≡ true
         → Passes (form.empty && other.empty) test r
         → test ((form.spell v.0 ++ other.spell v.1) ++ r) ≡ true
     front_of rest test f v r k i e =
         let a = and_parts (form.ready v.0) (other.ready v.1) k in
-        subst (λ (l : List Tok). test l ≡ true)
+        subst (λ (l : List Token). test l ≡ true)
         (sym (append_assoc (form.spell v.0) (other.spell v.1) r))
         (seq_front form.empty other.empty form.Fronts other.Fronts behind rest test
         (form.spell v.0) (other.spell v.1) r
@@ -189,7 +164,7 @@ module _ {A B C D : Type 0} {form : Form A} {other : Form B} {view : A → C} {a
         (λ f e. q.front rest test f v.1 r a.1 i e) f e)
 
     -- the first part is read before the tokens of the second part
-    both_here : other.Fronts any form.follows → (v : A × B) (r : List Tok)
+    both_here : other.Fronts any form.follows → (v : A × B) (r : List Token)
         → form.ready v.0 && other.ready v.1 ≡ true
         → seq_follows other.empty form.follows other.follows r ≡ true
         → (seq g h).spells (view v.0, also v.1) (form.spell v.0 ++ other.spell v.1) r
@@ -203,7 +178,7 @@ module _ {A B C D : Type 0} {form : Form A} {other : Form B} {view : A → C} {a
           q.here v.1 r a.1 b.1,
         )
 
-    both_only : (w : C × D) (c r : List Tok) → each is_given c ≡ true → (seq g h).spells w c r
+    both_only : (w : C × D) (c r : List Token) → each is_given c ≡ true → (seq g h).spells w c r
         → (v : A × B) × ((view v.0, also v.1) ≡ w)
         × (form.printable v.0 && other.printable v.1 ≡ true)
     both_only w c r a s =
@@ -237,7 +212,7 @@ module _ {A B C D : Type 0} {form : Form A} {other : Form B} {view : A → C} {a
 
 -- ---- values made of parts
 
-module _ {N : Bool → List Tok → Type 0} {A B : Type 0} {form : Form A} {view : A → B}
+module _ {N : Bool → List Token → Type 0} {A B : Type 0} {form : Form A} {view : A → B}
     {g : Production B} (p : UnparsesAs N form view g)
   where
     pub made_prints : {C : Type 0} (f : B → C)
@@ -249,7 +224,7 @@ module _ {N : Bool → List Tok → Type 0} {A B : Type 0} {form : Form A} {view
       only = λ b c r a s. (let x = p.only s.0 c r a s.1 in (x.0, ap f x.1 ∙ s.3, x.2));
     }
 
-module _ {N : Bool → List Tok → Type 0} {A B : Type 0} {form : Form A} {view : A → B}
+module _ {N : Bool → List Token → Type 0} {A B : Type 0} {form : Form A} {view : A → B}
     {g : Production B} (p : UnparsesAs N form view g) (parts : B → A) (ok : B → Bool)
     (is : (b : B) → ok b ≡ true → view (parts b) ≡ b)
     (is_ready : (b : B) → ok b ≡ true → form.ready (parts b) ≡ true)
@@ -265,7 +240,7 @@ module _ {N : Bool → List Tok → Type 0} {A B : Type 0} {form : Form A} {view
           (b, refl, subst (λ (w : B). ok w ≡ true) x.1 (covers x.0 x.2)));
     }
 
-module _ {N : Bool → List Tok → Type 0} {A B : Type 0} {form : Form A} {view : A → B}
+module _ {N : Bool → List Token → Type 0} {A B : Type 0} {form : Form A} {view : A → B}
     {g : Production B} (p : UnparsesAs N form view g) (parts : B → A)
   where
     pub whole_prints : ((b : B) → form.printable (parts b) ≡ true → view (parts b) ≡ b)
@@ -289,15 +264,15 @@ module _ {A B : Type 0} {form : Form A} {view : A → B} {g : Production B}
 
 -- ---- one of two
 
-else_parts : (e : Bool) (test f : Test) (r : List Tok)
+else_parts : (e : Bool) (test f : Test) (r : List Token)
     → else_follows e test f r ≡ true → Passes e (λ t. not (test t)) r × (f r ≡ true)
 else_parts true test f r h = and_parts (not (test r)) (f r) h
 else_parts false test f r h = (tt, h)
 
-module _ {N : Bool → List Tok → Type 0} {A B : Type 0} {form : Form A} {view : A → B}
+module _ {N : Bool → List Token → Type 0} {A B : Type 0} {form : Form A} {view : A → B}
     {g : Production B} (p : UnparsesAs N form view g)
   where
-    pub unwritten_prints : {M : Bool → List Tok → Type 0}
+    pub unwritten_prints : {M : Bool → List Token → Type 0}
         → UnparsesAs M (unwritten_form form) view g
     unwritten_prints = record {
       nests = λ a h. absurd cc;
@@ -307,16 +282,16 @@ module _ {N : Bool → List Tok → Type 0} {A B : Type 0} {form : Form A} {view
     }
 
 module _ {A B : Type 0} {form : Form A} {view : A → B} {g : Production B}
-    (p : Unparses form view g) (spell : A → List Tok)
+    (p : Unparses form view g) (spell : A → List Token)
     (same : (a : A) → form.ready a ≡ true → form.spell a ≡ spell a)
   where
     -- the same tokens from another function
     pub respelled : Unparses (record form { spell = spell }) view g
     respelled = record {
-      nests = λ a h. subst (λ (c : List Tok). Nests form.balanced c) (same a h) (p.nests a h);
-      front = λ rest test f a r h i e. (subst (λ (c : List Tok). test (c ++ r) ≡ true) (same a h)
+      nests = λ a h. subst (λ (c : List Token). Nests form.balanced c) (same a h) (p.nests a h);
+      front = λ rest test f a r h i e. (subst (λ (c : List Token). test (c ++ r) ≡ true) (same a h)
           (p.front rest test f a r h i e));
-      here = λ a r h e. (subst (λ (c : List Tok). g.spells (view a) c r) (same a h)
+      here = λ a r h e. (subst (λ (c : List Token). g.spells (view a) c r) (same a h)
           (p.here a r h e));
       only = p.only;
     }
@@ -335,9 +310,9 @@ module _ {A B : Type 0} {form : Form A} {view : A → B} {g : Production B}
       only = λ b c r a s. (let x = p.only s.0 c r a s.1 in (x.0, ap f x.1 ∙ s.3, x.2));
     }
 
-    pub restated_prints : (Spells : B → List Tok → List Tok → Type 0)
-        (to : (v : B) (c r : List Tok) → g.spells v c r → Spells v c r)
-        (from : (v : B) (c r : List Tok) → Spells v c r → g.spells v c r)
+    pub restated_prints : (Spells : B → List Token → List Token → Type 0)
+        (to : (v : B) (c r : List Token) → g.spells v c r → Spells v c r)
+        (from : (v : B) (c r : List Token) → Spells v c r → g.spells v c r)
         → Unparses form view (restated g Spells to from)
     restated_prints Spells to from = record {
       nests = p.nests;
@@ -346,26 +321,27 @@ module _ {A B : Type 0} {form : Form A} {view : A → B} {g : Production B}
       only = λ b c r a s. p.only b c r a (from b c r s);
     }
 
-passes_left : (a b : Bool) (test : Test) (r : List Tok) → Passes (a || b) test r → Passes a test r
+passes_left : (a b : Bool) (test : Test) (r : List Token) → Passes (a || b) test r → Passes a test r
 passes_left true b test r e = e
 passes_left false b test r e = tt
 
-passes_right : (a b : Bool) (test : Test) (r : List Tok) → Passes (a || b) test r → Passes b test r
+passes_right : (a b : Bool) (test : Test) (r : List Token) → Passes (a || b) test r
+    → Passes b test r
 passes_right true b test r e = passes_of b test r e
 passes_right false b test r e = e
 
-module _ {N : Bool → List Tok → Type 0} {A B C : Type 0} {form : Form A} {other : Form B}
+module _ {N : Bool → List Token → Type 0} {A B C : Type 0} {form : Form A} {other : Form B}
     {view : A → C} {also : B → C} {g h : Production C} (rest : Test) (test : asked.Test)
     (p : UnparsesAs N form view g) (q : UnparsesAs N other also h)
-    (left : (x : List Tok) → N form.balanced x → N (form.balanced && other.balanced) x)
-    (right : (x : List Tok) → N other.balanced x → N (form.balanced && other.balanced) x)
+    (left : (x : List Token) → N form.balanced x → N (form.balanced && other.balanced) x)
+    (right : (x : List Token) → N other.balanced x → N (form.balanced && other.balanced) x)
   where
     else_nests : (v : A ⊎ B) → pick form.ready other.ready v ≡ true
         → N (form.balanced && other.balanced) (pick form.spell other.spell v)
     else_nests (inl a) k = left (form.spell a) (p.nests a k)
     else_nests (inr b) k = right (other.spell b) (q.nests b k)
 
-    else_front : (x t : Test) → form.Fronts x t × other.Fronts x t → (v : A ⊎ B) (r : List Tok)
+    else_front : (x t : Test) → form.Fronts x t × other.Fronts x t → (v : A ⊎ B) (r : List Token)
         → pick form.ready other.ready v ≡ true → x r ≡ true → Passes (form.empty || other.empty) t r
         → t (pick form.spell other.spell v ++ r) ≡ true
     else_front x t f (inl a) r k i e =
@@ -373,10 +349,10 @@ module _ {N : Bool → List Tok → Type 0} {A B C : Type 0} {form : Form A} {ot
     else_front x t f (inr b) r k i e =
         q.front x t f.1 b r k i (passes_right form.empty other.empty t r e)
 
-    else_here : ((a : A) (r : List Tok) → form.ready a ≡ true → rest r ≡ true
+    else_here : ((a : A) (r : List Token) → form.ready a ≡ true → rest r ≡ true
         → run test (form.spell a ++ r) ≡ true)
         → other.Fronts rest (λ t. not (run test t))
-        → (v : A ⊎ B) (r : List Tok) → pick form.ready other.ready v ≡ true
+        → (v : A ⊎ B) (r : List Token) → pick form.ready other.ready v ≡ true
         → rest r && (form.follows r && else_follows other.empty (λ t. run test t) other.follows r) ≡ true
         → (where_else test g h).spells (pick view also v) (pick form.spell other.spell v) r
     else_here m f (inl a) r k e =
@@ -388,12 +364,12 @@ module _ {N : Bool → List Tok → Type 0} {A B C : Type 0} {form : Form A} {ot
         let x = and_parts (form.follows r) (else_follows other.empty (λ t. run test t) other.follows r) i.1 in
         let y = else_parts other.empty (λ t. run test t) other.follows r x.1 in
         inr (
-          not_true (run test (other.spell b ++ r))
+          not-true (run test (other.spell b ++ r))
               (q.front rest (λ t. not (run test t)) f b r k i.0 y.0),
           q.here b r k y.1,
         )
 
-    else_only : (w : C) (c r : List Tok) → each is_given c ≡ true
+    else_only : (w : C) (c r : List Token) → each is_given c ≡ true
         → (where_else test g h).spells w c r
         → (v : A ⊎ B) × (pick view also v ≡ w) × (pick form.printable other.printable v ≡ true)
     else_only w c r a (inl k) = let x = p.only w c r a k.1 in (inl x.0, x.1, x.2)
@@ -401,7 +377,7 @@ module _ {N : Bool → List Tok → Type 0} {A B C : Type 0} {form : Form A} {ot
 
     -- the test passes on the tokens of the first part, and fails on the tokens of the second part,
     -- before each rest that passes `rest`
-    told : ((a : A) (r : List Tok) → form.ready a ≡ true → rest r ≡ true
+    told : ((a : A) (r : List Token) → form.ready a ≡ true → rest r ≡ true
         → run test (form.spell a ++ r) ≡ true)
         → other.Fronts rest (λ t. not (run test t))
         → UnparsesAs N (told_form rest (λ t. run test t) form other) (pick view also) (where_else test g h)
@@ -416,7 +392,7 @@ module _ {A B C : Type 0} {form : Form A} {other : Form B} {view : A → C} {als
     {g h : Production C}
   where
     pub told_prints : (rest : Test) (test : asked.Test) → Unparses form view g → Unparses other also h
-        → ((a : A) (r : List Tok) → form.ready a ≡ true → rest r ≡ true
+        → ((a : A) (r : List Token) → form.ready a ≡ true → rest r ≡ true
         → run test (form.spell a ++ r) ≡ true)
         → other.Fronts rest (λ t. not (run test t))
         → Unparses (told_form rest (λ t. run test t) form other) (pick view also) (where_else test g h)
@@ -454,22 +430,23 @@ module _ {A B : Type 0} {form : Form A} {view : A → B} {g : Production B} (beg
     option_nests (Some v) h = p.nests v h
     option_nests None h = nests_nothing form.balanced
 
-    option_front : (rest test : Test) → form.Fronts rest test → (o : Option A) (r : List Tok)
+    option_front : (rest test : Test) → form.Fronts rest test → (o : Option A) (r : List Token)
         → if_some form.ready o ≡ true → rest r ≡ true → test r ≡ true
         → test (spell_option form.spell o ++ r) ≡ true
     option_front rest test f (Some v) r h i e =
         p.front rest test f v r h i (passes_of form.empty test r e)
     option_front rest test f None r h i e = e
 
-    option_here : Must form.empty (form.Fronts any (λ t. run begins t)) → (o : Option A) (r : List Tok)
+    option_here : Must form.empty (form.Fronts any (λ t. run begins t))
+        → (o : Option A) (r : List Token)
         → if_some form.ready o ≡ true → not (run begins r) && form.follows r ≡ true
         → (opt begins g).spells (option_map view o) (spell_option form.spell o) r
     option_here m (Some v) r h e =
         (begun p (λ t. run begins t) m v r h, p.here v r h (and_parts (not (run begins r)) (form.follows r) e).1)
     option_here m None r h e =
-        (refl, not_true (run begins r) (and_parts (not (run begins r)) (form.follows r) e).0)
+        (refl, not-true (run begins r) (and_parts (not (run begins r)) (form.follows r) e).0)
 
-    option_only : (o : Option B) (c r : List Tok) → each is_given c ≡ true
+    option_only : (o : Option B) (c r : List Token) → each is_given c ≡ true
         → (opt begins g).spells o c r
         → (t : Option A) × (option_map view t ≡ o) × (if_some form.printable t ≡ true)
     option_only (Some w) c r a s =
@@ -500,13 +477,13 @@ module _ {A : Type 0} {form : Form A} {g : Production A} (begins : asked.Test) (
     filled_nests (Some v) h = p.nests v h
     filled_nests None h = absurd cc
 
-    filled_front : (rest test : Test) → form.Fronts rest test → (o : Option A) (r : List Tok)
+    filled_front : (rest test : Test) → form.Fronts rest test → (o : Option A) (r : List Token)
         → some_and form.ready o ≡ true → rest r ≡ true → Passes form.empty test r
         → test (spell_option form.spell o ++ r) ≡ true
     filled_front rest test f (Some v) r h i e = p.front rest test f v r h i e
     filled_front rest test f None r h i e = absurd cc
 
-    filled_here : (o : Option A) (r : List Tok) → some_and form.ready o ≡ true
+    filled_here : (o : Option A) (r : List Token) → some_and form.ready o ≡ true
         → form.follows r ≡ true → (opt begins g).spells o (spell_option form.spell o) r
     filled_here (Some v) r h e = (begun p (λ t. run begins t) m v r h, p.here v r h e)
     filled_here None r h e = absurd cc
@@ -531,29 +508,29 @@ module _ {A B : Type 0} {form : Form A} {view : A → B} {g : Production B} (beg
         (nests_seq form.balanced form.balanced (form.spell v) (flat_map form.spell vs)
         (p.nests v a.0) (many_nests vs a.1))
 
-    many_front : (test : Test) → form.Fronts any test → (vs : List A) (r : List Tok)
+    many_front : (test : Test) → form.Fronts any test → (vs : List A) (r : List Token)
         → each form.ready vs ≡ true → test r ≡ true
         → test (flat_map form.spell vs ++ r) ≡ true
     many_front test f [] r h e = e
     many_front test f (v ∷ vs) r h e =
         let a = and_parts (form.ready v) (each form.ready vs) h in
         let x = flat_map form.spell vs in
-        subst (λ (l : List Tok). test l ≡ true) (sym (append_assoc (form.spell v) x r))
+        subst (λ (l : List Token). test l ≡ true) (sym (append_assoc (form.spell v) x r))
         (p.front any test f v (x ++ r) a.0 refl
         (passes_of form.empty test (x ++ r) (many_front test f vs r a.1 e)))
 
-    many_end : Must form.empty (form.Fronts any form.follows) → (vs : List A) (r : List Tok)
+    many_end : Must form.empty (form.Fronts any form.follows) → (vs : List A) (r : List Token)
         → each form.ready vs ≡ true → form.follows r ≡ true
         → form.follows (flat_map form.spell vs ++ r) ≡ true
     many_end n [] r h e = e
     many_end n (v ∷ vs) r h e =
         let a = and_parts (form.ready v) (each form.ready vs) h in
         let x = flat_map form.spell vs in
-        subst (λ (l : List Tok). form.follows l ≡ true) (sym (append_assoc (form.spell v) x r))
+        subst (λ (l : List Token). form.follows l ≡ true) (sym (append_assoc (form.spell v) x r))
         (begun p form.follows n v (x ++ r) a.0)
 
     many_here : Must form.empty (form.Fronts any (λ t. run begins t))
-        → Must form.empty (form.Fronts any form.follows) → (vs : List A) (r : List Tok)
+        → Must form.empty (form.Fronts any form.follows) → (vs : List A) (r : List Token)
         → each form.ready vs ≡ true → form.follows r ≡ true → run begins r ≡ false
         → many_spells (λ t. run begins t) g (map view vs) (flat_map form.spell vs) r
     many_here m n [] r h e k = (refl, k)
@@ -563,13 +540,13 @@ module _ {A B : Type 0} {form : Form A} {view : A → B} {g : Production B} (beg
           form.spell v,
           x,
           refl,
-          subst (λ (l : List Tok). run begins l ≡ true) (sym (append_assoc (form.spell v) x r))
+          subst (λ (l : List Token). run begins l ≡ true) (sym (append_assoc (form.spell v) x r))
               (begun p (λ t. run begins t) m v (x ++ r) a.0),
           p.here v (x ++ r) a.0 (many_end n vs r a.1 e),
           many_here m n vs r a.1 e k,
         )
 
-    many_only : (ws : List B) (c r : List Tok) → each is_given c ≡ true
+    many_only : (ws : List B) (c r : List Token) → each is_given c ≡ true
         → many_spells (λ t. run begins t) g ws c r
         → (vs : List A) × (map view vs ≡ ws) × (each form.printable vs ≡ true)
     many_only [] c r a s = ([], refl, refl)
@@ -587,7 +564,7 @@ module _ {A B : Type 0} {form : Form A} {view : A → B} {g : Production B} (beg
       nests = many_nests;
       front = λ rest test f vs r h i e. many_front test f vs r h e;
       here = λ vs r h e. (let k = and_parts (not (run begins r)) (form.follows r) e in
-          many_here m n vs r h k.1 (not_true (run begins r) k.0));
+          many_here m n vs r h k.1 (not-true (run begins r) k.0));
       only = many_only;
     }
 
@@ -611,21 +588,21 @@ module _ {A : Type 0} {form : Form A} {g : Production A} (begins : asked.Test) (
 
 -- ---- groups
 
-paren_front : (b : Bool) (F : Test → Test → Type 0) (test : Test) (x r : List Tok)
+paren_front : (b : Bool) (F : Test → Test → Type 0) (test : Test) (x r : List Token)
     → (F any (λ t. test (LParen ∷ t)) → Passes b (λ t. test (LParen ∷ t)) (RParen ∷ r)
     → test (LParen ∷ (x ++ (RParen ∷ r))) ≡ true)
     → ParenFronts b F test → test (LParen ∷ (x ++ (RParen ∷ r))) ≡ true
 paren_front true F test x r f h = f h.0 (h.1 r)
 paren_front false F test x r f h = f h tt
 
-module _ {N : Bool → List Tok → Type 0} {A B : Type 0} {form : Form A} {view : A → B}
+module _ {N : Bool → List Token → Type 0} {A B : Type 0} {form : Form A} {view : A → B}
     {g : Production B} (p : UnparsesAs N form view g)
-    (shut : (x : List Tok) → N form.balanced x → WellFormed (in_parens x))
+    (shut : (x : List Token) → N form.balanced x → WellFormed (in_parens x))
   where
     in_parens_front : (test : Test) → ParenFronts form.empty form.Fronts test → (a : A)
-        (r : List Tok) → form.ready a ≡ true → test (in_parens (form.spell a) ++ r) ≡ true
+        (r : List Token) → form.ready a ≡ true → test (in_parens (form.spell a) ++ r) ≡ true
     in_parens_front test f a r h =
-        subst (λ (l : List Tok). test (LParen ∷ l) ≡ true)
+        subst (λ (l : List Token). test (LParen ∷ l) ≡ true)
         (sym (append_assoc (form.spell a) (RParen ∷ []) r))
         (paren_front form.empty form.Fronts test (form.spell a) r
         (λ f e. p.front any (λ t. test (LParen ∷ t)) f a (RParen ∷ r) h refl e) f)
@@ -649,10 +626,10 @@ module _ {A B : Type 0} {form : Form A} {view : A → B} {g : Production B}
     pub grouped_prints : Inside form view g → Unparses (paren_form form) view (paren g)
     grouped_prints p = shut_prints p (λ x n. n)
 
-module _ {N : Bool → List Tok → Type 0} {A B : Type 0} {form : Form A} {view : A → B}
+module _ {N : Bool → List Token → Type 0} {A B : Type 0} {form : Form A} {view : A → B}
     {g : Production B} (p : UnparsesAs N form view g)
   where
-    led_only : (k : Production (Unit {0})) (b : B) (c r : List Tok) → each is_given c ≡ true
+    led_only : (k : Production (Unit {0})) (b : B) (c r : List Token) → each is_given c ≡ true
         → (made (λ v. v.1) (seq k g)).spells b c r
         → (a : A) × (view a ≡ b) × (form.printable a ≡ true)
     led_only k b c r a s =
@@ -662,10 +639,10 @@ module _ {N : Bool → List Tok → Type 0} {A B : Type 0} {form : Form A} {view
         (x.0, x.1 ∙ s.3, x.2)
 
     -- a token, which k reads, and then the form
-    pub led_prints : {M : Bool → List Tok → Type 0} (Fronts : Test → Type 0) (t : Tok)
+    pub led_prints : {M : Bool → List Token → Type 0} (Fronts : Test → Type 0) (t : Token)
         (k : Production (Unit {0}))
         → Spells k tt (t ∷ [])
-        → ((test : Test) (y : List Tok) → Fronts test → test (t ∷ y) ≡ true)
+        → ((test : Test) (y : List Token) → Fronts test → test (t ∷ y) ≡ true)
         → ((a : A) → form.ready a ≡ true → M form.balanced (t ∷ form.spell a))
         → UnparsesAs M (led_form Fronts t form) view (made (λ v. v.1) (seq k g))
     led_prints Fronts t k reads first nests = record {

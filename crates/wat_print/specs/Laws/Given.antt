@@ -1,33 +1,17 @@
 -- Laws: the tokens of a text.
-use Rattle.std.specs.Prelude.{◌≡◌, ℕ, zero, suc, ◌+◌, ◌*◌, ◌<◌, ◌==◌, slice_index, Bool, true}
-use Rattle.std.specs.Prelude.{false, List, [], ◌∷◌, ◌++◌, Option, Some, None, length}
-use Rattle.std.specs.Char.{digit_value}
-use Rattle.std.specs.Str.{IsUtf8, is_utf8}
-use Rattle.std.proofs.Common.{refl, subst, arith, rules, inl, inr}
-use Rattle.std.proofs.lemmas.Bool.{and_parts, cond_both, ltb-true}
-use Rattle.std.proofs.lemmas.Bool.Decides.{nat_tests}
-use Rattle.std.proofs.lemmas.Str.{is_utf8-from_IsUtf8, IsUtf8-from_ascii}
-use Rattle.wat_lexer.specs.Bytes.{is_idchar}
-use Rattle.wat_lexer.specs.Cut.{IsCut, Cuts, done, blank, token, Token, Str, close, more, Element}
-use Rattle.wat_lexer.specs.Cut.{raw_byte, short_form, hex_byte, code_point, short_escape, is_hex}
-use Rattle.wat_lexer.specs.Cut.{Name, Idchars}
-use Rattle.wat_lexer.specs.Number.{is_integer}
-use Rattle.wat_lexer.specs.Sight.{visible, visible_tokens, begins_hidden_group, shuts, deeper}
-use Rattle.wat_lexer.specs.Token.{Tok, Placed, LParen, RParen, Keyword, Id, Annotation, Integer}
-use Rattle.wat_lexer.specs.Token.{String, Reserved, tokens_of, is_open}
-use Rattle.wat_print.specs.WellFormed.{is_byte, is_name, is_given}
-use Rattle.wat_print.specs.Text.{all_are}
-use Rattle.wat_print.specs.Parts.{each}
+use Rattle.std.proofs.Common.{◌≡◌, ℕ, zero, suc, ◌+◌, ◌*◌, ◌<◌, ◌==◌, slice_index, Bool, true, false, List, [], ◌∷◌, ◌++◌, Option, Some, None, length, refl, subst, arith, rules, inl, inr}
+use Rattle.std.specs.Str.{is_utf8}
+use Rattle.wat_types.specs.Prelude.{digit_value, IsUtf8, and_parts, cond_both, ltb-true, is_utf8-from_IsUtf8, IsUtf8-from_ascii, IsCut, Cuts, done, blank, token, IsToken, Str, close, Element, raw_byte, hex_byte, is_hex, Name, Idchars, is_integer, visible, visible_tokens, begins_hidden_group, shuts, deeper, Token, Placed, LParen, RParen, Keyword, Id, Annotation, Integer, String, Reserved, tokens_of, is_open}
+use Rattle.wat_print.specs.Prelude.{is_byte, is_name, is_given, all_are, each}
+use Rattle.wat_lexer.specs.Cut.{more, short_form, code_point, short_escape}
 use Rattle.wat_print.specs.Laws.Bytes.{front_are, both_are, byte_is, character_bytes, utf8_bytes}
+use Rattle.wat_lexer.specs.Laws.Bytes.{idchar_ascii}
 
 -- ---- names and strings
 
-idchar_low : (b : ℕ) → is_idchar b ≡ true → b < 128
-idchar_low b h = grind (arith, nat_tests)
-
 idchars_ascii : (n : List ℕ) → Idchars n → (i : ℕ) → slice_index n i < 128
 idchars_ascii [] h i = search (rules)
-idchars_ascii (b ∷ n) h zero = idchar_low b h.0
+idchars_ascii (b ∷ n) h zero = idchar_ascii b h.0
 idchars_ascii (b ∷ n) h (suc i) = idchars_ascii n h.1 i
 
 idchars_utf8 : (n : List ℕ) → Idchars n → is_utf8 n ≡ true
@@ -79,7 +63,7 @@ string_given y c (more x v z d e s) a =
 
 -- ---- tokens
 
-token_given : (behind : Bool) (x r : List ℕ) (t : Tok) → Token behind x r t
+token_given : (behind : Bool) (x r : List ℕ) (t : Token) → IsToken behind x r t
     → all_are is_byte x ≡ true → is_given t ≡ true
 token_given behind x r LParen k a = refl
 token_given behind x r RParen k a = refl
@@ -107,18 +91,18 @@ cut_given n behind x ps (token m b text y r t ts e k c) a =
 
 -- ---- visible tokens
 
-visible_given : (known : Bool) (place : Option ℕ) (ts : List Tok) → each is_given ts ≡ true
+visible_given : (known : Bool) (place : Option ℕ) (ts : List Token) → each is_given ts ≡ true
     → each is_given (visible known place ts) ≡ true
 unfolding visible
 visible_given known place [] a = refl
 visible_given known None (t ∷ ts) a =
     let p = and_parts (is_given t) (each is_given ts) a in
-    cond_both (begins_hidden_group known (t ∷ ts)) _ _ (λ (l : List Tok). each is_given l ≡ true)
+    cond_both (begins_hidden_group known (t ∷ ts)) _ _ (λ (l : List Token). each is_given l ≡ true)
     (λ e. visible_given known (Some 0) ts p.1)
     (λ e. rw (p.0) (visible_given known None ts p.1))
 visible_given known (Some depth) (t ∷ ts) a =
     let p = and_parts (is_given t) (each is_given ts) a in
-    cond_both (shuts t depth) _ _ (λ (l : List Tok). each is_given l ≡ true)
+    cond_both (shuts t depth) _ _ (λ (l : List Token). each is_given l ≡ true)
     (λ e. visible_given known None ts p.1)
     (λ e. visible_given known (Some (deeper t depth)) ts p.1)
 
@@ -129,7 +113,8 @@ unfolding visible_tokens
 text_given x ps known u c =
     visible_given known None (tokens_of ps) (cut_given (length x) false x ps c.0 (utf8_bytes x u))
 
-pub part_given : (b c r : List Tok) → each is_given (b ++ (c ++ r)) ≡ true → each is_given c ≡ true
+pub part_given : (b c r : List Token) → each is_given (b ++ (c ++ r)) ≡ true
+    → each is_given c ≡ true
 part_given [] [] r a = refl
 part_given [] (t ∷ c) r a =
     let p = and_parts (is_given t) (each is_given (c ++ r)) a in

@@ -1,20 +1,10 @@
 -- Laws: integers are written with the text that was read.
-use Rattle.std.specs.Prelude.{◌≡◌, ℕ, ◌+◌, ◌*◌, ◌<◌, ◌≤◌, Bool, true, false, ◌&&◌, ◌||◌, ◌==◌}
-use Rattle.std.specs.Prelude.{nat_lt, List, [], ◌∷◌, drop, Option, Some, is_some}
-use Rattle.std.specs.Char.{digit_value}
-use Rattle.std.proofs.Common.{refl, subst, arith}
-use Rattle.std.proofs.lemmas.Bool.{and_parts, cond_both}
-use Rattle.std.proofs.lemmas.Bool.Decides.{nat_tests}
-use Rattle.wat_lexer.specs.Bytes.{is_idchar}
-use Rattle.wat_lexer.specs.Number.{read, number, begins_hex, magnitude, without_sign, is_integer}
-use Rattle.wat_lexer.specs.Token.{Tok, Integer}
+use Rattle.std.proofs.Common.{◌≡◌, ℕ, ◌+◌, ◌*◌, ◌<◌, ◌≤◌, Bool, true, false, ◌&&◌, ◌||◌, ◌==◌, nat_lt, List, [], ◌∷◌, drop, Option, Some, is_some, refl, subst, arith}
+use Rattle.wat_print.specs.Laws.Prelude.{digit_value, and_parts, cond_both, nat_tests, is_idchar, read, begins_hex, magnitude, without_sign, is_integer, Token, Integer, WellFormed, is_given, all_are, OnlyPrintable, only_one, Spells, well_formed_one}
+use Rattle.wat_lexer.specs.Number.{number}
 use Rattle.wat_tokens.specs.Integers.{integer}
 use Rattle.wat_tokens.specs.Tests.{as_integer}
 use Rattle.wat_print.specs.Integer.{spell_integer}
-use Rattle.wat_print.specs.WellFormed.{WellFormed, is_given}
-use Rattle.wat_print.specs.Text.{all_are}
-use Rattle.wat_print.specs.Laws.Only.{OnlyPrintable, only_one}
-use Rattle.wat_print.specs.Laws.Parts.{Spells, well_formed_one}
 
 -- ---- the bytes of an integer are idchars
 
@@ -84,7 +74,7 @@ integer_here x r = (Integer x, refl, refl)
 pub integer_well_formed : (x : List ℕ) → is_integer x ≡ true → WellFormed (spell_integer x)
 integer_well_formed x e = well_formed_one (Integer x) (rw (integer_idchars x e, e) refl)
 
-given_integer : (t : Tok) (x : List ℕ) → is_given t ≡ true → as_integer t ≡ Some x
+given_integer : (t : Token) (x : List ℕ) → is_given t ≡ true → as_integer t ≡ Some x
     → is_integer x ≡ true
 given_integer (Integer k) x a e =
     let same : k ≡ x = cc in subst (λ (y : List ℕ). is_integer y ≡ true) same a

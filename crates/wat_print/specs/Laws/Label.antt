@@ -1,37 +1,18 @@
 -- Laws: labels, and lists of parts with optional labels, are read again.
-use Rattle.std.specs.Prelude.{◌≡◌, ℕ, Bool, true, false, not, ◌&&◌, ◌||◌, List, [], ◌∷◌, ◌++◌}
-use Rattle.std.specs.Prelude.{Option, Some, None, codes, flat_map, map, ◌⊎◌, ◌≤◌}
-use Rattle.std.proofs.Common.{refl, ap, subst, sym, ◌∙◌, append_assoc, append-nil, inl, inr, rules}
-use Rattle.std.proofs.lemmas.Bool.{and_parts}
-use Rattle.wat_lexer.specs.Token.{Tok, LParen, Id}
-use Rattle.wat_tokens.specs.Index.{identifier}
-use Rattle.wat_tokens.specs.Joined.{all_of}
-use Rattle.wat_tokens.specs.Many.{many}
-use Rattle.wat_tokens.specs.NameAnnotation.{name_annotation, at_name}
-use Rattle.wat_tokens.specs.Parts.{made, seq, where_else}
-use Rattle.wat_tokens.specs.Production.{Production}
-use Rattle.wat_tokens.specs.Tests.{as_id, more}
-use Rattle.wat_tokens.specs.Test.{at_id, at_more}
-use Rattle.wat_types.specs.Label.{Label, label_of, no_label, labelled, label, begins_label}
-use Rattle.wat_types.specs.Label.{at_label}
-use Rattle.wat_print.specs.Form.{Form, any, pick}
-use Rattle.wat_print.specs.Label.{none_labelled, by_itself, in_groups, OfIds, id_form, name_form}
-use Rattle.wat_print.specs.Label.{label_parts, label_form, tree_form, one_side, listed_parts}
-use Rattle.wat_print.specs.Label.{at_most_one, may_share, listed_form}
-use Rattle.wat_print.specs.Parts.{each}
-use Rattle.wat_print.specs.Prints.{Prints, Unparses, Must}
-use Rattle.wat_print.specs.WellFormed.{is_name, is_given}
+use Rattle.std.proofs.Common.{◌≡◌, ℕ, Bool, true, false, not, ◌&&◌, ◌||◌, List, [], ◌∷◌, ◌++◌, Option, Some, None, codes, flat_map, map, ◌⊎◌, ◌≤◌, refl, ap, subst, sym, ◌∙◌, append_assoc, append-nil, inl, inr, rules}
+use Rattle.wat_types.specs.Prelude.{and_parts, name_annotation, as_id, label_of, no_label, begins_label, at_label}
+use Rattle.wat_print.specs.Prelude.{Token, LParen, Id, identifier, all_of, many, made, seq, where_else, Production, more, at_id, at_more, Label, labelled, label, Form, any, pick, none_labelled, by_itself, in_groups, id_form, label_form, at_most_one, listed_form, each, Prints, Unparses, Must, is_name, is_given}
+use Rattle.wat_tokens.specs.NameAnnotation.{at_name}
+use Rattle.wat_print.specs.Label.{OfIds, name_form, label_parts, tree_form, one_side, listed_parts, may_share}
 use Rattle.wat_print.specs.Laws.Annotation.{annotated}
-use Rattle.wat_print.specs.Laws.Form.{one_prints, option_prints, seq_prints, made_prints}
-use Rattle.wat_print.specs.Laws.Form.{whole_prints, whole_where, told_prints, only_where_prints}
-use Rattle.wat_print.specs.Laws.Form.{many_seen, respelled, grouped_prints}
+use Rattle.wat_print.specs.Laws.Form.{one_prints, option_prints, seq_prints, made_prints, whole_prints, whole_where, told_prints, only_where_prints, many_seen, respelled, grouped_prints}
 use Rattle.wat_print.specs.Laws.Parts.{and_also, each_both}
-use Rattle.wat_print.specs.Laws.Quoted.{if_cases}
 use Rattle.wat_print.specs.Laws.Strings.{text_prints}
+use Rattle.wat_lexer.specs.Laws.Cases.{if_either}
 
 -- ---- parts with optional labels
 
-pub labelled_front : (i n : Option (List ℕ)) (x : List Tok) → labelled (label_of i n) ≡ true
+pub labelled_front : (i n : Option (List ℕ)) (x : List Token) → labelled (label_of i n) ≡ true
     → begins_label (label_form.spell (label_of i n) ++ x) ≡ true
 labelled_front (Some i) n x h = refl
 labelled_front None (Some n) x h = refl
@@ -45,7 +26,7 @@ unlabelled_is None (Some n) h = absurd cc
 
 -- ---- labels that a text spells can be written
 
-id_given : (t : Tok) (n : List ℕ) → is_given t ≡ true → as_id t ≡ Some n → is_name n ≡ true
+id_given : (t : Token) (n : List ℕ) → is_given t ≡ true → as_id t ≡ Some n → is_name n ≡ true
 id_given (Id m) n a e =
     let k : m ≡ n = cc in subst (λ (x : List ℕ). is_name x ≡ true) k a
 id_given LParen n a e = absurd cc
@@ -92,12 +73,12 @@ module _ {T P : Type 0} {value : Form T} {g : Production T} (p : Prints value g)
     abbrev seen : Label × T ⊎ List T → List P
     seen v = pick (λ (v : Label × T). part v.0 v.1 ∷ []) (map (part no_label)) v
 
-    label_told : (v : Label × T) (r : List Tok)
+    label_told : (v : Label × T) (r : List Token)
         → labelled v.0 && (label_form.ready v.0 && value.ready v.1) ≡ true → any r ≡ true
         → begins_label ((label_form.spell v.0 ++ value.spell v.1) ++ r) ≡ true
     label_told v r h e =
         let a = and_parts (labelled v.0) (label_form.ready v.0 && value.ready v.1) h in
-        subst (λ (l : List Tok). begins_label l ≡ true)
+        subst (λ (l : List Token). begins_label l ≡ true)
         (sym (append_assoc (label_form.spell v.0) (value.spell v.1) r))
         (labelled_front v.0.id v.0.name (value.spell v.1 ++ r) a.0)
 
@@ -111,7 +92,7 @@ module _ {T P : Type 0} {value : Form T} {g : Production T} (p : Prints value g)
     abbrev printable_part : P → Bool
     printable_part x = label_form.printable (label_in x) && value.printable (value_in x)
 
-    abbrev spell_part : P → List Tok
+    abbrev spell_part : P → List Token
     spell_part x = label_form.spell (label_in x) ++ value.spell (value_in x)
 
     -- a part without a label is written as its value
@@ -142,7 +123,7 @@ module _ {T P : Type 0} {value : Form T} {g : Production T} (p : Prints value g)
         let p = plain_part x (rw e refl) in (
           ap (λ (y : P). y ∷ []) p.0,
           rw (sure (value_in x) k.1) refl,
-          ap (λ (l : List Tok). l ++ []) (sym p.1),
+          ap (λ (l : List Token). l ++ []) (sym p.1),
         )
 
     all_written : (xs : List P) → none_labelled label_in xs ≡ true
@@ -157,8 +138,8 @@ module _ {T P : Type 0} {value : Form T} {g : Production T} (p : Prints value g)
           ap (λ (y : P). y ∷ map (part no_label) (map value_in xs)) p.0
               ∙ ap (λ (ys : List P). x ∷ ys) s.0,
           rw (sure (value_in x) k.1) s.1,
-          ap (λ (l : List Tok). value.spell (value_in x) ++ l) s.2
-              ∙ ap (λ (l : List Tok). l ++ flat_map spell_part xs) (sym p.1),
+          ap (λ (l : List Token). value.spell (value_in x) ++ l) s.2
+              ∙ ap (λ (l : List Token). l ++ flat_map spell_part xs) (sym p.1),
         )
 
     listed_written : (xs : List P) → may_share value label_in value_in xs ≡ true
@@ -213,7 +194,7 @@ module _ {T P : Type 0} {value : Form T} {g : Production T} (p : Prints value g)
         → each (may_share value label_in value_in) (in_groups label_in xs) ≡ true
     groups_ready [] f = refl
     groups_ready (x ∷ xs) f =
-        if_cases (λ (gs : List (List P)). each (may_share value label_in value_in) gs ≡ true)
+        if_either (λ (gs : List (List P)). each (may_share value label_in value_in) gs ≡ true)
         (none_labelled label_in (x ∷ xs)) ((x ∷ xs) ∷ []) (map by_itself (x ∷ xs))
         (λ u. (rw (
           or_right (at_most_one value label_in value_in (x ∷ xs))
@@ -248,6 +229,6 @@ pub in_groups_all : {P : Type 0} (label_in : P → Label) (ps : List P)
     → all_of (in_groups label_in ps) ≡ ps
 in_groups_all label_in [] = refl
 in_groups_all {P = P} label_in (p ∷ ps) =
-    if_cases (λ (gs : List (List P)). all_of gs ≡ p ∷ ps) (none_labelled label_in (p ∷ ps))
+    if_either (λ (gs : List (List P)). all_of gs ≡ p ∷ ps) (none_labelled label_in (p ∷ ps))
     ((p ∷ ps) ∷ []) (map by_itself (p ∷ ps)) (λ u. (append-nil (p ∷ ps)))
     (λ u. (alone_all (p ∷ ps)))

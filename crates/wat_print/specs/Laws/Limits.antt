@@ -1,27 +1,10 @@
 -- Laws: limits, memory types and table types are read again.
-use Rattle.std.specs.Prelude.{◌≡◌, ℕ, ◌^◌, ◌-◌, ◌<◌, ◌≤◌, Bool, true, false, nat_lt, List, [], ◌∷◌}
-use Rattle.std.specs.Prelude.{Some, codes, decimal}
-use Rattle.std.proofs.Common.{rules, refl, arith, subst}
-use Rattle.std.proofs.Math.Pow.{pow_mono}
-use Rattle.std.proofs.lemmas.Bool.{lt-ltb, ltb-true}
-use Rattle.std.proofs.lemmas.Bool.Decides.{nat_tests}
-use Rattle.wat_lexer.specs.Token.{Tok, LParen, Integer}
-use Rattle.wat_tokens.specs.Integers.{unsigned, unsigned_of}
-use Rattle.wat_tokens.specs.Tests.{begins_integer}
-use Rattle.wat_tokens.specs.Test.{at_group, at_integer, at_word}
-use Rattle.wat_types.specs.Limits.{is_64, limits_of, limits_type, page_exponent, pagesize}
-use Rattle.wat_types.specs.Limits.{pagesize_or_none, table_type_of, table_type, memory_type_of}
-use Rattle.wat_types.specs.Limits.{memory_type}
-use Rattle.wat_types.specs.PageSize.{ExponentSpells}
-use Rattle.wat_print.specs.Limits.{is_u64, is_exponent, OfIntegers, number_form, width_parts}
-use Rattle.wat_print.specs.Limits.{exponent_form, width_form, limits_parts, limits_form, page_form}
-use Rattle.wat_print.specs.Limits.{memory_parts, memory_form, table_parts, table_form}
-use Rattle.wat_print.specs.Prints.{Prints}
-use Rattle.wat_print.specs.WellFormed.{is_given, is_printable}
-use Rattle.wat_print.specs.Parts.{each, spell_flag}
-use Rattle.wat_print.specs.Laws.Form.{behind_prints, one_prints, word_prints, flag_prints}
-use Rattle.wat_print.specs.Laws.Form.{seq_prints, made_prints, whole_prints, whole_where, respelled}
-use Rattle.wat_print.specs.Laws.Form.{else_prints, option_prints, group_prints}
+use Rattle.std.proofs.Common.{rules, arith, subst, ◌≡◌, ℕ, ◌^◌, ◌-◌, ◌<◌, ◌≤◌, Bool, true, false, nat_lt, List, [], ◌∷◌, Some, codes, decimal, refl}
+use Rattle.wat_types.specs.Prelude.{pow_mono, lt-ltb, ltb-true, nat_tests, limits_type, page_exponent, pagesize, pagesize_or_none, memory_type, ExponentSpells}
+use Rattle.wat_print.specs.Prelude.{Token, LParen, Integer, unsigned, unsigned_of, begins_integer, at_group, at_integer, at_word, is_64, table_type_of, table_type, is_u64, OfIntegers, width_form, limits_form, page_form, memory_form, table_parts, table_form, Prints, is_given, is_printable, each, spell_flag}
+use Rattle.wat_types.specs.Limits.{limits_of, memory_type_of}
+use Rattle.wat_print.specs.Limits.{is_exponent, number_form, width_parts, exponent_form, limits_parts, memory_parts}
+use Rattle.wat_print.specs.Laws.Form.{behind_prints, one_prints, word_prints, flag_prints, seq_prints, made_prints, whole_prints, whole_where, respelled, else_prints, option_prints, group_prints}
 use Rattle.wat_print.specs.Laws.Numbers.{decimal_printable, unsigned_decimal, unsigned_fits}
 use Rattle.wat_print.specs.Laws.Parts.{well_formed_one}
 use Rattle.wat_print.specs.Laws.Reference.{ref_prints}
@@ -34,7 +17,7 @@ u64_printable n h = decimal_printable n (ltb-true n (2 ^ 64) h)
 u64_reads : (n : ℕ) → is_u64 n ≡ true → unsigned_of 64 (Integer (decimal n)) ≡ Some n
 u64_reads n h = let lt = ltb-true n (2 ^ 64) h in unsigned_decimal 64 n lt (omega arith)
 
-u64_given : (t : Tok) (n : ℕ) → is_given t ≡ true → unsigned_of 64 t ≡ Some n → is_u64 n ≡ true
+u64_given : (t : Token) (n : ℕ) → is_given t ≡ true → unsigned_of 64 t ≡ Some n → is_u64 n ≡ true
 u64_given (Integer x) n a e = let le = unsigned_fits 64 x n e in lt-ltb n (2 ^ 64) (omega arith)
 u64_given LParen n a e = absurd cc
 u64_given _ n a e = absurd cc
@@ -76,7 +59,7 @@ below_by k false e h =
 not_above : (k : ℕ) → 2 ^ k ≤ 2 ^ 32 - 1 → k < 32
 not_above k h = below_by k (nat_lt k 32) refl h
 
-u32_given : (t : Tok) (n : ℕ) → unsigned_of 32 t ≡ Some n → n ≤ 2 ^ 32 - 1
+u32_given : (t : Token) (n : ℕ) → unsigned_of 32 t ≡ Some n → n ≤ 2 ^ 32 - 1
 u32_given (Integer x) n e = unsigned_fits 32 x n e
 u32_given LParen n e = absurd cc
 u32_given _ n e = absurd cc
@@ -85,7 +68,7 @@ exponent_fits : (k : ℕ) → is_exponent k ≡ true → is_printable (Integer (
 exponent_fits k h =
     let le = power_below k (ltb-true k 32 h) in decimal_printable (2 ^ k) (omega arith)
 
-exponent_here : (k : ℕ) (r : List Tok) → is_exponent k ≡ true
+exponent_here : (k : ℕ) (r : List Token) → is_exponent k ≡ true
     → ExponentSpells k (Integer (decimal (2 ^ k)) ∷ []) r
 exponent_here k r h =
     let le = power_below k (ltb-true k 32 h) in (
@@ -94,7 +77,7 @@ exponent_here k r h =
       refl,
     )
 
-exponent_only : (k : ℕ) (c r : List Tok) → each is_given c ≡ true → ExponentSpells k c r
+exponent_only : (k : ℕ) (c r : List Token) → each is_given c ≡ true → ExponentSpells k c r
     → is_exponent k ≡ true
 exponent_only k c r a s =
     let le = u32_given s.1.0 s.0 s.1.2 in

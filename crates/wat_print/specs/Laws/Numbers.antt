@@ -1,21 +1,12 @@
 -- Laws: the digits that are written for a number read as this number.
-use Rattle.std.specs.Prelude.{◌≡◌, ℕ, ◌+◌, ◌*◌, ◌^◌, ◌-◌, ◌<◌, ◌≤◌, true, false, ◌==◌, nat_lt}
-use Rattle.std.specs.Prelude.{nat_le, List, [], ◌∷◌, Option, Some, None, decimal}
-use Rattle.std.specs.Char.{digit_value}
+use Rattle.std.proofs.Common.{◌≡◌, ℕ, ◌+◌, ◌*◌, ◌^◌, ◌-◌, ◌<◌, ◌≤◌, true, false, ◌==◌, nat_lt, nat_le, List, [], ◌∷◌, Option, Some, None, decimal, refl, arith, subst}
 use Rattle.std.specs.Str.Parse.{AllDigits, digits_value, digits_value_after, IsNumeral}
-use Rattle.std.proofs.Common.{refl, arith, subst}
-use Rattle.std.proofs.lemmas.Bool.{cond_both, leb-true}
-use Rattle.std.proofs.lemmas.Bool.Decides.{nat_tests}
-use Rattle.std.proofs.lemmas.Fmt.{decimal_is_IsNumeral}
 use Rattle.std.proofs.lemmas.Str.Parse.{digit_from_value}
-use Rattle.wat_lexer.specs.Bytes.{is_idchar}
-use Rattle.wat_lexer.specs.Number.{read, number, begins_hex, magnitude, sign_of, without_sign}
-use Rattle.wat_lexer.specs.Number.{unsigned_value, up_to, unsigned_by}
+use Rattle.wat_types.specs.Prelude.{digit_value, cond_both, leb-true, nat_tests, decimal_is_IsNumeral, is_idchar, read, begins_hex, magnitude, sign_of, without_sign, unsigned_value, up_to, Integer}
+use Rattle.wat_print.specs.Prelude.{all_are, is_printable}
+use Rattle.wat_lexer.specs.Number.{number, unsigned_by}
 use Rattle.wat_lexer.specs.declared.number.Sign.{Sign}
 use Rattle.wat_lexer.specs.declared.number.Sign.TheVariants.{Plus, Minus}
-use Rattle.wat_lexer.specs.Token.{Integer}
-use Rattle.wat_print.specs.Text.{all_are}
-use Rattle.wat_print.specs.WellFormed.{is_printable}
 
 read_digits : (x : List ℕ) (n : ℕ) → AllDigits 10 x
     → read 10 true n x ≡ Some (digits_value_after 10 n x)

@@ -1,34 +1,23 @@
 -- Laws: values that tokens of a text spell can be written, part by part.
-use Rattle.std.specs.Prelude.{◌≡◌, ◌≤◌, ℕ, Bool, true, ◌&&◌, List, [], ◌∷◌, ◌++◌, Option, Some}
-use Rattle.std.specs.Str.{bytes_eq}
-use Rattle.std.proofs.Common.{refl, subst, inl, inr, sym}
-use Rattle.std.proofs.lemmas.Bool.{and_parts, cond_both}
-use Rattle.std.proofs.lemmas.Slice.Eq.{bytes_eq-Decides}
-use Rattle.wat_lexer.specs.Token.{Tok, LParen, RParen, Keyword}
-use Rattle.wat_tokens.specs.Many.{many}
-use Rattle.wat_tokens.specs.ManySpells.{many_spells}
-use Rattle.wat_tokens.specs.Parens.{NoParens}
-use Rattle.wat_tokens.specs.Parts.{one, seq, where_else, made_where, word, after_word}
-use Rattle.wat_tokens.specs.Production.{Production}
-use Rattle.wat_tokens.specs.Tests.{look_up, word_in}
-use Rattle.wat_tokens.specs.Test.{Test, run}
+use Rattle.std.proofs.Common.{◌≡◌, ◌≤◌, ℕ, Bool, true, ◌&&◌, List, [], ◌∷◌, ◌++◌, Option, Some, refl, subst, inl, inr, sym}
+use Rattle.wat_types.specs.Prelude.{bytes_eq, and_parts, cond_both, bytes_eq-Decides, Token, LParen, RParen, Keyword, many, many_spells, NoParens, one, seq, where_else, made_where, word, after_word, Production, look_up, word_in, Test, run}
 use Rattle.wat_print.specs.WellFormed.{is_given}
 use Rattle.wat_print.specs.Parts.{each}
 use Rattle.wat_print.specs.Laws.Parts.{each_front}
 
 -- each value that tokens of a text spell passes the test `printable`
 pub record OnlyPrintable {A : Type 0} (g : Production A) (printable : A → Bool) : Type 0 where
-  pub holds : (v : A) (c r : List Tok) → each is_given c ≡ true → g.spells v c r
+  pub holds : (v : A) (c r : List Token) → each is_given c ≡ true → g.spells v c r
       → printable v ≡ true
 
-pub given_parts : (c d e : List Tok) → c ≡ d ++ e → each is_given c ≡ true
+pub given_parts : (c d e : List Token) → c ≡ d ++ e → each is_given c ≡ true
     → (each is_given d ≡ true) × (each is_given e ≡ true)
 given_parts c d e s a =
-    each_front is_given d e (subst (λ (l : List Tok). each is_given l ≡ true) s a)
+    each_front is_given d e (subst (λ (l : List Token). each is_given l ≡ true) s a)
 
 -- the tokens after a `(`, in three parts: the first tokens of its group, the further tokens of its
 -- group, and the tokens after its `)`
-pub given_group : (f y x : List Tok) → each is_given (LParen ∷ (f ++ (y ++ (RParen ∷ x)))) ≡ true
+pub given_group : (f y x : List Token) → each is_given (LParen ∷ (f ++ (y ++ (RParen ∷ x)))) ≡ true
     → (each is_given f ≡ true) × (each is_given y ≡ true) × (each is_given x ≡ true)
 given_group f y x g =
     let a = each_front is_given f (y ++ (RParen ∷ x)) g in
@@ -54,7 +43,7 @@ pub table_word : {A : Type 0} (test : List ℕ → Bool) (table : List (List ℕ
 table_word test = entry_passes (λ u x. test u)
 
 pub word_given : {A : Type 0} (printable : A → Bool) (table : List (List ℕ × A))
-    → each (λ e. printable e.1) table ≡ true → (t : Tok) (v : A) → is_given t ≡ true
+    → each (λ e. printable e.1) table ≡ true → (t : Token) (v : A) → is_given t ≡ true
     → word_in table t ≡ Some v → printable v ≡ true
 word_given printable table h (Keyword w) v a e = entry_passes (λ u x. printable x) table w v h e
 word_given printable table h LParen v a e = absurd cc
@@ -63,13 +52,13 @@ word_given printable table h _ v a e = absurd cc
 pub only_any : {A : Type 0} (g : Production A) → OnlyPrintable g (λ _. true)
 only_any g = record { holds = λ v c r a s. refl }
 
-pub only_one : {A : Type 0} (value_of : Tok → Option A) (flat : NoParens value_of)
+pub only_one : {A : Type 0} (value_of : Token → Option A) (flat : NoParens value_of)
     (printable : A → Bool)
-    → ((t : Tok) (v : A) → is_given t ≡ true → value_of t ≡ Some v → printable v ≡ true)
+    → ((t : Token) (v : A) → is_given t ≡ true → value_of t ≡ Some v → printable v ≡ true)
     → OnlyPrintable (one value_of flat) printable
 only_one value_of flat printable h =
     record {
-      holds = λ v c r a s. (let k = subst (λ (l : List Tok). each is_given l ≡ true) s.1 a in
+      holds = λ v c r a s. (let k = subst (λ (l : List Token). each is_given l ≡ true) s.1 a in
           h s.0 v (and_parts (is_given s.0) true k).0 s.2);
     }
 
@@ -81,7 +70,7 @@ only_word_in table printable h =
     only_one (word_in table) (refl, refl) printable (word_given printable table h)
 
 where_holds : {A : Type 0} {g h : Production A} {printable : A → Bool} (test : Test)
-    → OnlyPrintable g printable → OnlyPrintable h printable → (v : A) (c r : List Tok)
+    → OnlyPrintable g printable → OnlyPrintable h printable → (v : A) (c r : List Token)
     → each is_given c ≡ true
     → (where_else test g h).spells v c r → printable v ≡ true
 where_holds test m n v c r a s =
@@ -92,8 +81,8 @@ pub only_where : {A : Type 0} {g h : Production A} {printable : A → Bool} (tes
     → OnlyPrintable (where_else test g h) printable
 only_where test m n = record { holds = where_holds test m n }
 
-many_holds : {A : Type 0} {g : Production A} {printable : A → Bool} (begins : List Tok → Bool)
-    → OnlyPrintable g printable → (vs : List A) (c r : List Tok) → each is_given c ≡ true
+many_holds : {A : Type 0} {g : Production A} {printable : A → Bool} (begins : List Token → Bool)
+    → OnlyPrintable g printable → (vs : List A) (c r : List Token) → each is_given c ≡ true
     → many_spells begins g vs c r → each printable vs ≡ true
 many_holds begins m [] c r a s = refl
 many_holds begins m (v ∷ vs) c r a s =

@@ -1,28 +1,18 @@
 -- Laws: the tokens that are written for parts of productions spell these parts.
-use Rattle.std.specs.Prelude.{◌≡◌, ℕ, Bool, true, false, ◌&&◌, List, [], ◌∷◌, ◌++◌, Some, None}
-use Rattle.std.specs.Prelude.{flat_map}
-use Rattle.std.specs.Str.{bytes_eq}
-use Rattle.std.proofs.Common.{refl, subst, sym, append_assoc, ap, ◌∙◌}
-use Rattle.std.proofs.lemmas.Bool.{and_parts}
-use Rattle.std.proofs.Math.Bool.{and_assoc}
-use Rattle.wat_lexer.specs.Token.{Tok, LParen, RParen, Keyword, Annotation}
-use Rattle.wat_tokens.specs.Tests.{begins_word}
-use Rattle.wat_tokens.specs.Production.{Production}
-use Rattle.wat_tokens.specs.Parts.{word, flag}
-use Rattle.wat_tokens.specs.Joined.{all_of}
-use Rattle.wat_tokens.specs.Spelled.{in_parens}
+use Rattle.std.proofs.Common.{◌≡◌, ℕ, Bool, true, false, ◌&&◌, List, [], ◌∷◌, ◌++◌, Some, None, flat_map, refl, subst, sym, append_assoc, ap, ◌∙◌}
+use Rattle.wat_types.specs.Prelude.{bytes_eq, and_parts, and_assoc, Token, LParen, RParen, Keyword, Annotation, begins_word, Production, word, flag, all_of, in_parens}
 use Rattle.wat_print.specs.WellFormed.{is_printable, is_keyword, WellFormed, nothing, token}
-use Rattle.wat_print.specs.WellFormed as well_formed
 use Rattle.wat_print.specs.Parts.{spell_flag, each}
+use Rattle.wat_print.specs.WellFormed as well_formed
 
 -- the tokens spell the value before any rest
-abbrev pub Spells : {A : Type 0} → Production A → A → List Tok → Type 0
-Spells g v c = (r : List Tok) → g.spells v c r
+abbrev pub Spells : {A : Type 0} → Production A → A → List Token → Type 0
+Spells g v c = (r : List Token) → g.spells v c r
 
 pub word_here : (w : List ℕ) → bytes_eq w w ≡ true → Spells (word w) tt (Keyword w ∷ [])
 word_here w e r = (Keyword w, refl, rw e refl)
 
-pub flag_here : (w : List ℕ) (b : Bool) (r : List Tok) → bytes_eq w w ≡ true
+pub flag_here : (w : List ℕ) (b : Bool) (r : List Token) → bytes_eq w w ≡ true
     → begins_word w r ≡ false
     → (flag w).spells b (spell_flag w b) r
 flag_here w true r e f = (Some tt, (e, word_here w e r), refl, refl)
@@ -30,28 +20,28 @@ flag_here w false r e f = (None, (refl, f), refl, refl)
 
 -- ---- tokens that can be written
 
-pub well_formed_both : (a b : List Tok) → WellFormed a → WellFormed b → WellFormed (a ++ b)
+pub well_formed_both : (a b : List Token) → WellFormed a → WellFormed b → WellFormed (a ++ b)
 well_formed_both a b nothing n = n
 well_formed_both a b (token t r h m) n = token t (r ++ b) h (well_formed_both r b m n)
 well_formed_both a b (well_formed.group c r m k) n =
-    subst (λ (l : List Tok). WellFormed (LParen ∷ l)) (sym (append_assoc c (RParen ∷ r) b))
+    subst (λ (l : List Token). WellFormed (LParen ∷ l)) (sym (append_assoc c (RParen ∷ r) b))
     (well_formed.group c (r ++ b) m (well_formed_both r b k n))
 well_formed_both a b (well_formed.noted x c r h e m k) n =
-    subst (λ (l : List Tok). WellFormed (LParen ∷ (Annotation x ∷ l)))
+    subst (λ (l : List Token). WellFormed (LParen ∷ (Annotation x ∷ l)))
     (sym (append_assoc c (RParen ∷ r) b))
     (well_formed.noted x c (r ++ b) h e m (well_formed_both r b k n))
 
-pub well_formed_one : (t : Tok) → is_printable t ≡ true → WellFormed (t ∷ [])
+pub well_formed_one : (t : Token) → is_printable t ≡ true → WellFormed (t ∷ [])
 well_formed_one t h = token t [] h nothing
 
-pub well_formed_word : (w : List ℕ) (d : List Tok) → is_keyword w ≡ true → WellFormed d
+pub well_formed_word : (w : List ℕ) (d : List Token) → is_keyword w ≡ true → WellFormed d
     → WellFormed (Keyword w ∷ d)
 well_formed_word w d h n = token (Keyword w) d h n
 
-pub well_formed_paren : (d : List Tok) → WellFormed d → WellFormed (in_parens d)
+pub well_formed_paren : (d : List Token) → WellFormed d → WellFormed (in_parens d)
 well_formed_paren d n = well_formed.group d [] n nothing
 
-pub well_formed_each : {A : Type 0} (spell : A → List Tok) (ok : A → Bool)
+pub well_formed_each : {A : Type 0} (spell : A → List Token) (ok : A → Bool)
     → ((v : A) → ok v ≡ true → WellFormed (spell v))
     → (vs : List A) → each ok vs ≡ true → WellFormed (flat_map spell vs)
 well_formed_each spell ok n [] o = nothing

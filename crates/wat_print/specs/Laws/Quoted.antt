@@ -1,23 +1,13 @@
 -- Laws: the text that is written for a string or a name is a string or a name.
-use Rattle.std.specs.Prelude.{◌≡◌, ℕ, ◌+◌, ◌*◌, ◌/◌, ◌%◌, ◌<◌, Bool, true, false, ◌&&◌, ◌||◌}
-use Rattle.std.specs.Prelude.{if◌then◌else◌, nat_lt, List, [], ◌∷◌, ◌++◌, length, ◌⊎◌}
-use Rattle.std.specs.Char.{digit_char, digit_value}
-use Rattle.std.specs.Str.{IsUtf8, is_utf8}
-use Rattle.std.proofs.Common.{refl, ap, subst, arith, inl, inr}
-use Rattle.std.proofs.lemmas.Bool.{and_parts}
-use Rattle.std.proofs.lemmas.Bool.Decides.{nat_tests}
-use Rattle.std.proofs.lemmas.Str.{digit_value-digit_char, IsUtf8-from_is_utf8}
-use Rattle.wat_lexer.specs.Bytes.{is_idchar}
-use Rattle.wat_lexer.specs.Cut.{is_raw, is_hex, Element, raw_byte, hex_byte, Str, close, more, Run}
-use Rattle.wat_lexer.specs.Cut.{none, idchar, string, Idchars, IsString, Name}
-use Rattle.wat_print.specs.Text.{escape, quoted_as, quoted, all_are, name_text}
-use Rattle.wat_print.specs.WellFormed.{is_byte, is_name}
+use Rattle.std.proofs.Common.{◌≡◌, ℕ, ◌+◌, ◌*◌, ◌/◌, ◌%◌, ◌<◌, Bool, true, ◌&&◌, ◌||◌, nat_lt, List, [], ◌∷◌, ◌++◌, length, ◌⊎◌, refl, ap, subst, arith, inl, inr}
+use Rattle.std.specs.Str.{is_utf8}
+use Rattle.std.proofs.lemmas.Str.{digit_value-digit_char}
+use Rattle.wat_types.specs.Prelude.{digit_char, and_parts, nat_tests, IsUtf8-from_is_utf8}
+use Rattle.wat_print.specs.Prelude.{digit_value, IsUtf8, is_idchar, is_raw, is_hex, Element, raw_byte, hex_byte, Str, close, Run, Idchars, Name, escape, quoted_as, quoted, all_are, is_byte, is_name}
+use Rattle.wat_lexer.specs.Cut.{more, none, idchar, string, IsString}
+use Rattle.wat_print.specs.Text.{name_text}
 use Rattle.wat_print.specs.Laws.Bytes.{utf8_bytes}
-
-pub if_cases : {A : Type 0} (P : A → Type 0) (b : Bool) (x y : A) → (b ≡ true → P x)
-    → (b ≡ false → P y) → P (if b then x else y)
-if_cases P true x y f g = f refl
-if_cases P false x y f g = g refl
+use Rattle.wat_lexer.specs.Laws.Cases.{if_either}
 
 hex_is : (d : ℕ) → d < 16 → is_hex (digit_char d) ≡ true
 hex_is d lt = let e = digit_value-digit_char d (omega arith) in rw e (grind (arith, nat_tests))
@@ -34,7 +24,7 @@ byte_is b lt =
 escape_is : (utf8 : Bool) (b : ℕ) → is_byte b ≡ true → Element (escape utf8 b) (b ∷ [])
 escape_is utf8 b small =
     let lt : b < 256 = grind (arith, nat_tests) in
-    if_cases (λ (x : List ℕ). Element x (b ∷ [])) (is_raw b && (utf8 || nat_lt b 128)) (b ∷ [])
+    if_either (λ (x : List ℕ). Element x (b ∷ [])) (is_raw b && (utf8 || nat_lt b 128)) (b ∷ [])
     (92 ∷ digit_char (b / 16) ∷ digit_char (b % 16) ∷ [])
     (λ e. (raw_byte b (and_parts (is_raw b) (utf8 || nat_lt b 128) e).0))
     (λ e. (subst (λ (v : ℕ). Element (92 ∷ digit_char (b / 16) ∷ digit_char (b % 16) ∷ []) (v ∷ []))
@@ -86,7 +76,7 @@ Body y n = Run y × (((y ≡ n) × Idchars n) ⊎ (IsString y n × IsUtf8 n))
 
 name_body : (n : List ℕ) → is_name n ≡ true → Body (name_text n) n
 name_body n h =
-    if_cases (λ (y : List ℕ). Body y n) (all_are is_idchar n) n (34 ∷ quoted n)
+    if_either (λ (y : List ℕ). Body y n) (all_are is_idchar n) n (34 ∷ quoted n)
     (λ e. (let i = idchars_are n e in (idchars_run n i, inl (refl, i))))
     (λ e. (let q = quoted_is n (name_bytes n h) in
     (string_run (quoted n) n q, inr ((quoted n, refl, q), name_utf8 n h))))

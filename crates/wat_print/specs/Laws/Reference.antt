@@ -1,71 +1,50 @@
 -- Laws: indices, heap types, reference types and value types are read again.
-use Rattle.std.specs.Prelude.{◌≡◌, ℕ, ◌^◌, true, false, not, nat_lt, List, ◌∷◌, ◌++◌, codes}
-use Rattle.std.specs.Prelude.{decimal, ◌≤◌, ◌-◌, Option, Some, None, option_map}
-use Rattle.std.specs.Str.{bytes_eq}
-use Rattle.std.proofs.Common.{rules, refl, arith, subst}
-use Rattle.std.proofs.lemmas.Bool.{ltb-true}
-use Rattle.std.proofs.lemmas.Bool.Decides.{nat_tests}
-use Rattle.wat_lexer.specs.Number.{unsigned_value}
-use Rattle.wat_lexer.specs.Token.{Tok, LParen, Keyword, Id, Integer}
-use Rattle.wat_tokens.specs.Index.{Idx, number, name, index, index_of, at_index}
-use Rattle.wat_tokens.specs.Tests.{word_in}
-use Rattle.wat_tokens.specs.Test.{at_group, at_listed, run}
-use Rattle.wat_tokens.specs.Parts.{one}
-use Rattle.wat_types.specs.Heap.{concrete, exact, abstract_, heap_type, abstract_heap_type}
-use Rattle.wat_types.specs.Heap.{abstract_word, abstract_words}
-use Rattle.wat_types.specs.Reference.{ref_type, shorthand_for, shorthand, short, shorthand_words}
-use Rattle.wat_types.specs.Value.{ValTy, i32, ref, val_type, plain_words, v128}
-use Rattle.wat_types.specs.declared.heap.AbstractHeapType.{AbstractHeapType}
-use Rattle.wat_types.specs.declared.heap.AbstractHeapType.TheVariants as word
-use Rattle.wat_print.specs.Form.{Test}
-use Rattle.wat_print.specs.Parts.{each}
-use Rattle.wat_print.specs.WellFormed.{is_keyword, is_given, WellFormed, is_printable}
-use Rattle.wat_print.specs.Index.{spell_index, printable_index, OfIndices, index_form}
-use Rattle.wat_print.specs.Prints.{Prints}
-use Rattle.wat_print.specs.Reference.{OfNamed, abstract_form, heap_parts, heap_form, short_word}
-use Rattle.wat_print.specs.Reference.{named_form, ref_parts, ref_form, is_plain, plain_word}
-use Rattle.wat_print.specs.Reference.{val_parts, val_form}
-use Rattle.wat_print.specs.Laws.Form.{one_prints, flag_prints, seq_prints, made_prints}
-use Rattle.wat_print.specs.Laws.Form.{whole_prints, else_prints, group_prints, unwritten_prints}
+use Rattle.std.proofs.Common.{◌≡◌, ℕ, ◌^◌, true, false, not, nat_lt, List, ◌∷◌, ◌++◌, codes, decimal, ◌≤◌, ◌-◌, Option, Some, None, option_map, rules, refl, arith, subst}
+use Rattle.wat_types.specs.Prelude.{bytes_eq, ltb-true, nat_tests, unsigned_value, Token, LParen, Keyword, Id, Integer, IndexModel, number, name, index, index_of, at_index, word_in, at_group, at_listed, run, one, concrete, exact, abstract_, heap_type, abstract_heap_type, abstract_word, abstract_words, ref_type, shorthand_for, shorthand, short, shorthand_words, ValTypeModel, i32, ref, val_type, plain_words, v128, short_word, abstract_is_named}
+use Rattle.wat_print.specs.Prelude.{AbstractHeapType, Test, each, is_keyword, is_given, WellFormed, is_printable, spell_index, printable_index, index_form, Prints, heap_form, named_form, ref_form, plain_word, val_form}
+use Rattle.wat_print.specs.Index.{OfIndices}
+use Rattle.wat_print.specs.Reference.{OfNamed, abstract_form, heap_parts, ref_parts, is_plain, val_parts}
+use Rattle.wat_print.specs.Laws.Form.{one_prints, flag_prints, seq_prints, made_prints, whole_prints, else_prints, group_prints, unwritten_prints}
 use Rattle.wat_print.specs.Laws.Numbers.{decimal_printable, unsigned_decimal, unsigned_fits}
 use Rattle.wat_print.specs.Laws.Only.{OnlyPrintable, only_one, word_given, table_word}
 use Rattle.wat_print.specs.Laws.Parts.{Spells, well_formed_one}
+use Rattle.wat_types.specs.declared.heap.AbstractHeapType.TheVariants as word
 
 -- ---- indices
 
-pub index_here : (i : Idx) → printable_index i ≡ true → Spells index i (spell_index i)
+pub index_here : (i : IndexModel) → printable_index i ≡ true → Spells index i (spell_index i)
 index_here (number n) h r =
     let lt = ltb-true n (2 ^ 32) h in
     (Integer (decimal n), refl, rw (unsigned_decimal 32 n (omega arith) (omega arith)) refl)
 index_here (name x) h r = (Id x, refl, refl)
 
-pub index_well_formed : (i : Idx) → printable_index i ≡ true → WellFormed (spell_index i)
+pub index_well_formed : (i : IndexModel) → printable_index i ≡ true → WellFormed (spell_index i)
 index_well_formed (number n) h =
     let lt = ltb-true n (2 ^ 32) h in
     well_formed_one (Integer (decimal n)) (decimal_printable n (omega arith))
 index_well_formed (name x) h = well_formed_one (Id x) h
 
-number_given : (o : Option ℕ) (i : Idx) → ((n : ℕ) → o ≡ Some n → n ≤ 2 ^ 32 - 1)
+number_given : (o : Option ℕ) (i : IndexModel) → ((n : ℕ) → o ≡ Some n → n ≤ 2 ^ 32 - 1)
     → option_map number o ≡ Some i → printable_index i ≡ true
 number_given None i h e = absurd cc
 number_given (Some n) i h e =
     let k : number n ≡ i = cc in
     let le = h n refl in
     let f : nat_lt n (2 ^ 32) ≡ true = grind (arith, nat_tests) in
-    subst (λ (j : Idx). printable_index j ≡ true) k f
+    subst (λ (j : IndexModel). printable_index j ≡ true) k f
 
-index_given : (t : Tok) (i : Idx) → is_given t ≡ true → index_of t ≡ Some i
+index_given : (t : Token) (i : IndexModel) → is_given t ≡ true → index_of t ≡ Some i
     → printable_index i ≡ true
 index_given (Integer x) i a e = number_given (unsigned_value 32 x) i (unsigned_fits 32 x) e
 index_given (Id n) i a e =
-    let k : name n ≡ i = cc in subst (λ (j : Idx). printable_index j ≡ true) k a
+    let k : name n ≡ i = cc in subst (λ (j : IndexModel). printable_index j ≡ true) k a
 index_given LParen i a e = absurd cc
 index_given _ i a e = absurd cc
 
 pub index_only : OnlyPrintable index printable_index
 index_only = only_one index_of (refl, refl) printable_index index_given
 
-index_fronts : (rest test : Test) → OfIndices rest test → (i : Idx) (r : List Tok)
+index_fronts : (rest test : Test) → OfIndices rest test → (i : IndexModel) (r : List Token)
     → rest r ≡ true → test (spell_index i ++ r) ≡ true
 index_fronts rest test f (number n) r h = f.0 (decimal n) r h
 index_fronts rest test f (name x) r h = f.1 x r h
@@ -94,14 +73,9 @@ abstract_fits : (t : AbstractHeapType) → is_keyword (abstract_word t) ≡ true
 abstract_fits word.Func = refl
 abstract_fits _ = refl
 
-pub abstract_reads : (t : AbstractHeapType)
-    → word_in abstract_words (Keyword (abstract_word t)) ≡ Some t
-abstract_reads word.Func = refl
-abstract_reads _ = refl
-
 pub abstract_prints : Prints abstract_form abstract_heap_type
 unfolding abstract_heap_type
-abstract_prints = named_prints abstract_words abstract_word abstract_fits abstract_reads
+abstract_prints = named_prints abstract_words abstract_word abstract_fits abstract_is_named
 
 pub heap_prints : Prints heap_form heap_type
 unfolding heap_type
@@ -143,7 +117,7 @@ short_prints = record {
 no_null : (t : AbstractHeapType) → not (bytes_eq (abstract_word t) (codes "null")) ≡ true
 no_null t =
     table_word (λ v. not (bytes_eq v (codes "null"))) abstract_words (abstract_word t) t refl
-    (abstract_reads t)
+    (abstract_is_named t)
 
 -- no shorthand is the word
 pub no_short : (w : List ℕ) → each (λ e. not (bytes_eq e.0 w)) shorthand_words ≡ true
@@ -166,36 +140,38 @@ ref_prints =
 
 -- ---- value types
 
-plain_fits : (t : ValTy) → is_plain t ≡ true → is_printable (Keyword (plain_word t)) ≡ true
+plain_fits : (t : ValTypeModel) → is_plain t ≡ true → is_printable (Keyword (plain_word t)) ≡ true
 plain_fits (ref r) h = absurd cc
 plain_fits _ h = refl
 
-plain_reads : (t : ValTy) → is_plain t ≡ true
+plain_reads : (t : ValTypeModel) → is_plain t ≡ true
     → word_in plain_words (Keyword (plain_word t)) ≡ Some t
 plain_reads (ref r) h = absurd cc
 plain_reads _ h = refl
 
-abbrev plain_value : ValTy → ValTy
+abbrev plain_value : ValTypeModel → ValTypeModel
 plain_value (ref r) = v128
 plain_value t = t
 
-plain_found : (t : ValTy) → word_in plain_words (Keyword (plain_word t)) ≡ Some (plain_value t)
+plain_found : (t : ValTypeModel)
+    → word_in plain_words (Keyword (plain_word t)) ≡ Some (plain_value t)
 plain_found (ref r) = refl
 plain_found _ = refl
 
 -- no number or vector type is the word
-pub no_plain : (w : List ℕ) → each (λ e. not (bytes_eq e.0 w)) plain_words ≡ true → (t : ValTy)
+pub no_plain : (w : List ℕ) → each (λ e. not (bytes_eq e.0 w)) plain_words ≡ true
+    → (t : ValTypeModel)
     → not (bytes_eq (plain_word t) w) ≡ true
 no_plain w a t =
     table_word (λ v. not (bytes_eq v w)) plain_words (plain_word t) (plain_value t) a
     (plain_found t)
 
-begins_plain_word : (t : ValTy) (y : List Tok)
+begins_plain_word : (t : ValTypeModel) (y : List Token)
     → run (at_listed plain_words) (Keyword (plain_word t) ∷ y) ≡ true
 begins_plain_word i32 y = refl
 begins_plain_word _ y = refl
 
-short_not_plain : (t : AbstractHeapType) (y : List Tok)
+short_not_plain : (t : AbstractHeapType) (y : List Token)
     → not (run (at_listed plain_words) (Keyword (short_word t) ∷ y)) ≡ true
 short_not_plain word.Func y = refl
 short_not_plain _ y = refl

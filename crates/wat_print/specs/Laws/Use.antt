@@ -1,40 +1,26 @@
 -- Laws: type uses are read again.
-use Rattle.std.specs.Prelude.{◌≡◌, true, false, ◌&&◌, List, [], ◌∷◌, ◌++◌, flat_map, codes}
-use Rattle.std.proofs.Common.{rules, refl}
-use Rattle.wat_lexer.specs.Token.{Tok}
-use Rattle.wat_tokens.specs.Production.{Production}
-use Rattle.wat_tokens.specs.Test.{second_word}
-use Rattle.wat_types.specs.Function.{function_groups, function_type}
-use Rattle.wat_types.specs.FunctionNoNames.{function_type_no_names}
-use Rattle.wat_types.specs.FunctionSpells.{FunctionSpells}
-use Rattle.wat_types.specs.Group.{Group, param, result, FuncTy, begins_func, group_follows, at_func}
-use Rattle.wat_types.specs.Laws.FunctionSpells.{function_to, function_from}
-use Rattle.wat_types.specs.Use.{UseTy, use_of, type_follows, type_use}
-use Rattle.wat_print.specs.Form.{Test, any, Form}
-use Rattle.wat_print.specs.Function.{func_group_form, groups_of, printable_function}
-use Rattle.wat_print.specs.Parts.{each, if_some}
-use Rattle.wat_print.specs.Prints.{Prints, Must}
-use Rattle.wat_print.specs.Use.{type_index_form, or_empty, inline_groups, inline_form, use_parts}
-use Rattle.wat_print.specs.Use.{use_form_of, use_form, unnamed_use_form}
-use Rattle.wat_print.specs.Laws.Form.{group_prints, option_prints, seq_prints, made_prints}
-use Rattle.wat_print.specs.Laws.Form.{whole_prints, whole_where, restated_prints}
-use Rattle.wat_print.specs.Laws.Function.{AreGroupsOf, groups_are, groups_prints, groups_whole}
-use Rattle.wat_print.specs.Laws.Function.{groups_covers, groups_are_ready, all_ready, unnamed_by}
+use Rattle.std.proofs.Common.{rules, ◌≡◌, true, false, ◌&&◌, List, [], ◌∷◌, ◌++◌, flat_map, codes, refl}
+use Rattle.wat_types.specs.Prelude.{group_follows, function_to, function_from, use_of, type_follows, type_use}
+use Rattle.wat_print.specs.Prelude.{Token, Production, second_word, function_groups, function_type, function_type_no_names, FunctionSpells, Group, param, result, FunctionTypeModel, begins_func, at_func, TypeUseModel, Test, any, Form, func_group_form, groups_of, printable_function, each, if_some, Prints, Must, use_form, unnamed_use_form}
+use Rattle.wat_print.specs.Use.{type_index_form, or_empty, inline_groups, inline_form, use_parts, use_form_of}
+use Rattle.wat_print.specs.Laws.Form.{group_prints, option_prints, seq_prints, made_prints, whole_prints, whole_where, restated_prints}
+use Rattle.wat_print.specs.Laws.Function.{AreGroupsOf, groups_are, groups_prints, groups_whole, groups_covers, groups_are_ready, all_ready, unnamed_by}
 use Rattle.wat_print.specs.Laws.Reference.{index_prints}
 
 -- a rest whose first tokens don't continue a type use
-abbrev pub EndsUse : List Tok → Type 0
+abbrev pub EndsUse : List Token → Type 0
 EndsUse r = (type_follows r ≡ false) × (begins_func r ≡ false) × (group_follows r ≡ false)
 
 -- ---- inline types
 
-inline_front : (test : Test) → func_group_form.Fronts any test → (gs : List Group) (r : List Tok)
+inline_front : (test : Test) → func_group_form.Fronts any test → (gs : List Group) (r : List Token)
     → test (flat_map func_group_form.spell (or_empty gs) ++ r) ≡ true
 inline_front test f [] r = f.0 _ refl
 inline_front test f (param ps ∷ gs) r = f.0 _ refl
 inline_front test f (result ts ∷ gs) r = f.1 _ refl
 
-empty_groups : (f : FuncTy) (gs : List Group) → AreGroupsOf f gs → AreGroupsOf f (or_empty gs)
+empty_groups : (f : FunctionTypeModel) (gs : List Group) → AreGroupsOf f gs
+    → AreGroupsOf f (or_empty gs)
 empty_groups f [] a = a
 empty_groups f (g ∷ gs) a = a
 
@@ -43,7 +29,7 @@ empty_ready : (gs : List Group) → each func_group_form.ready gs ≡ true
 empty_ready [] h = refl
 empty_ready (g ∷ gs) h = h
 
-inline_are : (f : FuncTy) → AreGroupsOf f (inline_groups f)
+inline_are : (f : FunctionTypeModel) → AreGroupsOf f (inline_groups f)
 inline_are f = empty_groups f (groups_of f) (groups_are f)
 
 inline_prints : Prints inline_form function_type
@@ -63,8 +49,8 @@ inline_prints =
 
 -- ---- uses
 
-module _ {inline : Form FuncTy} {g : Production FuncTy} (p : Prints inline g)
-    (sure : (u : UseTy FuncTy) → (use_form_of inline).printable u ≡ true
+module _ {inline : Form FunctionTypeModel} {g : Production FunctionTypeModel} (p : Prints inline g)
+    (sure : (u : TypeUseModel FunctionTypeModel) → (use_form_of inline).printable u ≡ true
     → type_index_form.ready u.index && if_some inline.ready u.inline ≡ true)
     (begins : Must inline.empty (inline.Fronts any begins_func))
     (behind : inline.Fronts any type_index_form.follows)

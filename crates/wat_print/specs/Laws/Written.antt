@@ -1,33 +1,23 @@
 -- Laws: tokens that are written one after the other.
-use Rattle.std.specs.Prelude.{◌≡◌, ℕ, zero, suc, ◌+◌, ◌*◌, ◌-◌, ◌<◌, Bool, true, not, ◌&&◌, List}
-use Rattle.std.specs.Prelude.{[], ◌∷◌, ◌++◌, length, map, flat_map, take, false, ◌==◌}
-use Rattle.std.proofs.Common.{refl, ap, subst, sym, ◌∙◌, append_assoc, append-nil, get_or, arith}
-use Rattle.std.proofs.lemmas.List.{take_more}
-use Rattle.std.proofs.lemmas.Bool.{and_parts, and_right, cond_both}
-use Rattle.wat_lexer.specs.Token.{Tok, LParen, RParen, Keyword}
-use Rattle.wat_print.specs.Layout.{LayoutPart, one, line, blanks, broken, lay, tokens_in, Writes}
-use Rattle.wat_print.specs.Text.{Page, put_one, put}
-use Rattle.wat_tokens.specs.Spelled.{in_parens}
-use Rattle.wat_types.specs.Group.{Group, param, result, ParamTy}
-use Rattle.wat_types.specs.Label.{Label}
-use Rattle.wat_types.specs.Value.{ValTy}
-use Rattle.wat_print.specs.Function.{param_label, params_form, func_group_form, param_groups}
-use Rattle.wat_print.specs.Function.{result_groups}
-use Rattle.wat_print.specs.Label.{none_labelled, by_itself, in_groups}
-use Rattle.wat_print.specs.Parts.{each, Wrote, WroteLines, grouped}
+use Rattle.std.proofs.Common.{ap, subst, sym, ◌∙◌, append_assoc, append-nil, arith, ◌≡◌, ℕ, zero, suc, ◌+◌, ◌*◌, ◌-◌, ◌<◌, Bool, true, not, ◌&&◌, List, [], ◌∷◌, ◌++◌, length, map, flat_map, take, false, ◌==◌, refl, get_or}
+use Rattle.wat_types.specs.Prelude.{take_more, and_parts, and_right, cond_both}
+use Rattle.wat_print.specs.Prelude.{Token, LParen, RParen, Keyword, LayoutPart, line, blanks, broken, lay, tokens_in, Writes, Page, put, in_parens, Group, param, result, ParamModel, Label, ValTypeModel, param_label, params_form, func_group_form, param_groups, result_groups, none_labelled, by_itself, in_groups, each, WroteLines, grouped}
+use Rattle.wat_print.specs.Layout.{one}
+use Rattle.wat_print.specs.Text.{put_one}
+use Rattle.wat_print.specs.Parts.{Wrote}
 
 -- ---- pages
 
-lay_put : (ts : List Tok) (p : Page) → put p ts ≡ lay p (map one ts)
+lay_put : (ts : List Token) (p : Page) → put p ts ≡ lay p (map one ts)
 lay_put [] p = refl
 lay_put (t ∷ ts) p = lay_put ts (put_one p t)
 
-tokens_one : (ts : List Tok) → tokens_in (map one ts) ≡ ts
+tokens_one : (ts : List Token) → tokens_in (map one ts) ≡ ts
 tokens_one [] = refl
-tokens_one (t ∷ ts) = ap (λ (l : List Tok). t ∷ l) (tokens_one ts)
+tokens_one (t ∷ ts) = ap (λ (l : List Token). t ∷ l) (tokens_one ts)
 
 -- on one line
-pub puts_put : (ts : List Tok) (a b : Page) → b ≡ put a ts → Writes ts a b
+pub puts_put : (ts : List Token) (a b : Page) → b ≡ put a ts → Writes ts a b
 puts_put ts a b e =
     record { pieces = map one ts; tokens = tokens_one ts; page = e ∙ lay_put ts a }
 
@@ -43,8 +33,8 @@ line_whole (one t ∷ ps) p h = line_whole ps (put_one p t) h
 line_whole (line n ∷ ps) p h =
     ap (λ (q : Page). lay q ps) (unbroken n p h) ∙ line_whole ps p h
 
-pub put_puts : (ts : List Tok) (a b : Page) → a.lines ≡ false → Writes ts a b → b ≡ put a ts
-put_puts ts a b h w = w.page ∙ line_whole w.pieces a h ∙ ap (λ (l : List Tok). put a l) w.tokens
+pub put_puts : (ts : List Token) (a b : Page) → a.lines ≡ false → Writes ts a b → b ≡ put a ts
+put_puts ts a b h w = w.page ∙ line_whole w.pieces a h ∙ ap (λ (l : List Token). put a l) w.tokens
 
 -- a line break, or nothing
 pub puts_line : (n : ℕ) (a b : Page) → b ≡ broken n a → Writes [] a b
@@ -57,34 +47,34 @@ lay_both (line n ∷ ps) qs p = lay_both ps qs (broken n p)
 
 tokens_both : (ps qs : List LayoutPart) → tokens_in (ps ++ qs) ≡ tokens_in ps ++ tokens_in qs
 tokens_both [] qs = refl
-tokens_both (one t ∷ ps) qs = ap (λ (l : List Tok). t ∷ l) (tokens_both ps qs)
+tokens_both (one t ∷ ps) qs = ap (λ (l : List Token). t ∷ l) (tokens_both ps qs)
 tokens_both (line n ∷ ps) qs = tokens_both ps qs
 
 -- two writes in sequence
-pub puts_both : (ts us : List Tok) (a b c : Page) → Writes ts a b → Writes us b c
+pub puts_both : (ts us : List Token) (a b c : Page) → Writes ts a b → Writes us b c
     → Writes (ts ++ us) a c
 puts_both ts us a b c v w =
     record {
       pieces = v.pieces ++ w.pieces;
       tokens = tokens_both v.pieces w.pieces
-          ∙ ap (λ (l : List Tok). l ++ tokens_in w.pieces) v.tokens
-          ∙ ap (λ (l : List Tok). ts ++ l) w.tokens;
+          ∙ ap (λ (l : List Token). l ++ tokens_in w.pieces) v.tokens
+          ∙ ap (λ (l : List Token). ts ++ l) w.tokens;
       page = w.page ∙ ap (λ (p : Page). lay p w.pieces) v.page
           ∙ sym (lay_both v.pieces w.pieces a);
     }
 
 -- ---- tokens on one line
 
-pub put_both : (a b : List Tok) (p : Page) → put p (a ++ b) ≡ put (put p a) b
+pub put_both : (a b : List Token) (p : Page) → put p (a ++ b) ≡ put (put p a) b
 put_both [] b p = refl
 put_both (t ∷ a) b p = put_both a b (put_one p t)
 
-module _ {X A : Type 0} (view : X → A) (spell : A → List Tok) (printable : A → Bool) where
+module _ {X A : Type 0} (view : X → A) (spell : A → List Token) (printable : A → Bool) where
   spell_last : (xs : List X) (x : X) → flat_map spell (map view (xs ++ x ∷ []))
       ≡ flat_map spell (map view xs) ++ spell (view x)
   spell_last [] x = append-nil (spell (view x))
   spell_last (y ∷ xs) x =
-      ap (λ (l : List Tok). spell (view y) ++ l) (spell_last xs x)
+      ap (λ (l : List Token). spell (view y) ++ l) (spell_last xs x)
       ∙ sym (append_assoc (spell (view y)) (flat_map spell (map view xs)) (spell (view x)))
 
   printable_last : (xs : List X) (x : X) → each printable (map view xs) ≡ true
@@ -105,7 +95,7 @@ module _ {X A : Type 0} (view : X → A) (spell : A → List Tok) (printable : A
       subst (λ (l : List X). Wrote view spell printable l a c) (sym (take_more xs i d lt)) (record {
         written = e ∙ ap (λ (q : Page). put q (spell (view x))) w.written
             ∙ sym (put_both (flat_map spell (map view (take i xs))) (spell (view x)) a)
-            ∙ ap (λ (l : List Tok). put a l) (sym (spell_last (take i xs) x));
+            ∙ ap (λ (l : List Token). put a l) (sym (spell_last (take i xs) x));
         fits = printable_last (take i xs) x w.fits f;
       })
 
@@ -128,18 +118,18 @@ module _ {X A : Type 0} (view : X → A) (spell : A → List Tok) (printable : A
       let same : take (i + 1) xs ≡ ys ++ x ∷ [] =
       take_more xs i x lt ∙ ap (λ (y : X). ys ++ y ∷ []) (sym s) in
       subst (λ (l : List X). WroteLines view spell printable l a c) (sym same) (record {
-        written = subst (λ (l : List Tok). Writes l a c) (sym (spell_last ys x))
+        written = subst (λ (l : List Token). Writes l a c) (sym (spell_last ys x))
             (puts_both (flat_map spell (map view ys)) (spell (view x)) a b c w.written e);
         fits = printable_last ys x w.fits f;
       })
 
 -- a word and tokens in parentheses
-pub put_grouped : (w : List ℕ) (ts : List Tok) (p : Page)
+pub put_grouped : (w : List ℕ) (ts : List Token) (p : Page)
     → put p (grouped w ts) ≡ put (put (put p (LParen ∷ Keyword w ∷ [])) ts) (RParen ∷ [])
 put_grouped w ts p = put_both ts (RParen ∷ []) (put p (LParen ∷ Keyword w ∷ []))
 
 -- `(`, the word, tokens, and `)`
-pub enclosed : (w : List ℕ) (ts : List Tok) (a b c d e : Page) → b ≡ put a (LParen ∷ [])
+pub enclosed : (w : List ℕ) (ts : List Token) (a b c d e : Page) → b ≡ put a (LParen ∷ [])
     → c ≡ put b (Keyword w ∷ []) → d ≡ put c ts → e ≡ put d (RParen ∷ [])
     → e ≡ put a (grouped w ts)
 enclosed w ts a b c d e f g h i =
@@ -148,7 +138,7 @@ enclosed w ts a b c d e f g h i =
     ∙ sym (put_grouped w ts a)
 
 -- two writes in sequence
-pub put_then : (ts us : List Tok) (a b c : Page) → b ≡ put a ts → c ≡ put b us
+pub put_then : (ts us : List Token) (a b c : Page) → b ≡ put a ts → c ≡ put b us
     → c ≡ put a (ts ++ us)
 put_then ts us a b c e f = f ∙ ap (λ (q : Page). put q us) e ∙ sym (put_both ts us a)
 
@@ -195,14 +185,14 @@ line_broken n x y z lines tight p v l t e f =
     (f ∙ ap (λ (b : List ℕ). b ++ blanks n) e ∙ append_assoc x (10 ∷ []) (blanks n))))
 
 -- tokens in parentheses
-pub put_parens : (ts : List Tok) (a b c d : Page) → b ≡ put a (LParen ∷ []) → c ≡ put b ts
+pub put_parens : (ts : List Token) (a b c d : Page) → b ≡ put a (LParen ∷ []) → c ≡ put b ts
     → d ≡ put c (RParen ∷ []) → d ≡ put a (in_parens ts)
 put_parens ts a b c d e f g =
     g ∙ ap (λ (q : Page). put q (RParen ∷ [])) (f ∙ ap (λ (q : Page). put q ts) e)
     ∙ sym (put_both ts (RParen ∷ []) (put a (LParen ∷ [])))
 
 -- a line break, then tokens
-pub puts_behind : (n : ℕ) (ts : List Tok) (a b c : Page) → b ≡ broken n a → c ≡ put b ts
+pub puts_behind : (n : ℕ) (ts : List Token) (a b c : Page) → b ≡ broken n a → c ≡ put b ts
     → Writes ts a c
 puts_behind n ts a b c e f = puts_both [] ts a b c (puts_line n a b e) (puts_put ts b c f)
 
@@ -215,12 +205,13 @@ not_each_item {X = X} view printable xs i x lt s f =
 
 -- ---- the groups of views of lists
 
-spell_alone : {P : Type 0} (spell : List P → List Tok) (ps : List P)
+spell_alone : {P : Type 0} (spell : List P → List Token) (ps : List P)
     → flat_map spell (map by_itself ps) ≡ flat_map (λ p. spell (by_itself p)) ps
 spell_alone spell [] = refl
-spell_alone spell (p ∷ ps) = ap (λ (l : List Tok). spell (by_itself p) ++ l) (spell_alone spell ps)
+spell_alone spell (p ∷ ps) = ap (λ (l : List Token). spell (by_itself p) ++ l) (spell_alone spell
+    ps)
 
-module _ {X P : Type 0} (spell : List P → List Tok) (label : P → Label) (view : X → P) where
+module _ {X P : Type 0} (spell : List P → List Token) (label : P → Label) (view : X → P) where
   pub groups_together : (xs : List X) → (length xs == 0) ≡ false
       → none_labelled label (map view xs) ≡ true
       → flat_map spell (in_groups label (map view xs)) ≡ spell (map view xs)
@@ -236,23 +227,23 @@ module _ {X P : Type 0} (spell : List P → List Tok) (label : P → Label) (vie
 
 pub ruleset groups = (groups_together, groups_alone)
 
-module _ {X : Type 0} (view : X → ValTy) where
+module _ {X : Type 0} (view : X → ValTypeModel) where
   pub results_together : (xs : List X) → (length xs == 0) ≡ false
       → result_groups (map view xs) ≡ result (map view xs) ∷ []
   results_together [] e = absurd cc
   results_together (x ∷ xs) e = refl
 
 -- the groups of a function type: the groups of parameters, then the group of results
-params_split : (gs : List (List ParamTy)) (hs : List Group)
+params_split : (gs : List (List ParamModel)) (hs : List Group)
     → flat_map func_group_form.spell (map param gs ++ hs)
     ≡ flat_map params_form.spell gs ++ flat_map func_group_form.spell hs
 params_split [] hs = refl
 params_split (g ∷ gs) hs =
-    ap (λ (l : List Tok). params_form.spell g ++ l) (params_split gs hs)
+    ap (λ (l : List Token). params_form.spell g ++ l) (params_split gs hs)
     ∙ sym (append_assoc (params_form.spell g) (flat_map params_form.spell gs)
     (flat_map func_group_form.spell hs))
 
-pub function_split : (ps : List ParamTy) (ts : List ValTy)
+pub function_split : (ps : List ParamModel) (ts : List ValTypeModel)
     → flat_map func_group_form.spell (param_groups ps ++ result_groups ts)
     ≡ flat_map params_form.spell (in_groups param_label ps)
     ++ flat_map func_group_form.spell (result_groups ts)

@@ -1,58 +1,19 @@
 -- Laws: memory accesses, orderings and lanes are read again.
-use Rattle.std.specs.Prelude.{not, ◌≡◌, ℕ, zero, suc, ◌^◌, ◌<◌, Bool, true, false, ◌&&◌, ◌||◌, ◌==◌}
-use Rattle.std.specs.Prelude.{List, [], ◌∷◌, ◌++◌, codes, decimal, Option, Some, None, is_none}
-use Rattle.std.specs.Prelude.{option_map, if◌then◌else◌, unwrap_or}
-use Rattle.std.specs.Int.{is_power_of_two}
-use Rattle.std.proofs.Common.{rules, refl, ap, subst, sym, append_assoc, inl, inr, lit≤, arith, ◌∙◌}
-use Rattle.std.proofs.lemmas.Bool.{and_parts, cond_both, eqb-true, ltb-true, or_right}
-use Rattle.std.proofs.lemmas.Fmt.{decimal_is_IsNumeral}
-use Rattle.wat_lexer.specs.Number.{unsigned_value, sign_of}
-use Rattle.wat_lexer.specs.Token.{Tok, LParen, Keyword, Integer}
-use Rattle.wat_tokens.specs.Index.{number, name, begins_index, at_index}
-use Rattle.wat_tokens.specs.Parts.{seq, opt}
-use Rattle.wat_tokens.specs.Production.{Production}
-use Rattle.wat_tokens.specs.Test.{at_word, second_word}
-use Rattle.wat_tokens.specs.Kind.{past_front}
+use Rattle.std.proofs.Common.{not, ◌≡◌, ℕ, zero, suc, ◌^◌, ◌<◌, Bool, true, false, ◌&&◌, ◌||◌, ◌==◌, List, [], ◌∷◌, ◌++◌, codes, decimal, Option, Some, None, is_none, option_map, if◌then◌else◌, unwrap_or, rules, refl, ap, subst, sym, append_assoc, inl, inr, lit≤, arith, ◌∙◌}
+use Rattle.wat_expr.specs.Prelude.{lane_arg, goes_on, LaneAccessModel, lane_access, MemArgTargetModel, memory, array, array_follows, MemArgModel, mem_arg, atomic_mem_arg, ordering, ordered, index_or_0, LaneArg, MemArgOrdering, Ordering, AcqRel, SeqCst}
+use Rattle.wat_print.specs.Laws.Prelude.{is_power_of_two, and_parts, cond_both, eqb-true, ltb-true, or_right, decimal_is_IsNumeral, unsigned_value, sign_of, Token, LParen, Keyword, Integer, number, name, begins_index, at_index, seq, opt, Production, at_word, second_word, past_front, Test, any, Form, pick, told_form, group_form, filled_form, index_form, is_u64, OfIntegers, each, spell_option, Prints, Unparses, is_keyword, is_given, one_prints, word_prints, seq_prints, made_prints, whole_prints, whole_where, told_prints, else_prints, option_prints, group_prints, prints_only, filled_prints, given_parts, no_sign, well_formed_both, and_also, index_prints, not-true, same_number}
+use Rattle.wat_print_instr.specs.Prelude.{next_form, is_index_0}
+use Rattle.wat_operands.specs.Lanes.{lane_of, lane_in, access_of, is_alone}
+use Rattle.wat_operands.specs.Memory.{target, offset_or_0, align, align_or, mem_arg_of, ordering_as, with_ordering, at_front}
+use Rattle.wat_operands.specs.Ordering.{at_ordering}
 use Rattle.wat_operands.specs.Align.{number_behind, field, number_in}
-use Rattle.wat_operands.specs.Lanes.{lane_of, lane_arg, lane_in, access_of, goes_on, is_alone}
-use Rattle.wat_operands.specs.Lanes.{LaneAccessTy, lane_access}
 use Rattle.wat_operands.specs.Laws.Power.{power_of_two-holds, power_of_two-tested}
-use Rattle.wat_operands.specs.Memory.{TargetTy, memory, array, target, array_follows}
-use Rattle.wat_operands.specs.Memory.{offset_or_0, align, align_or, MemArgTy, mem_arg_of, mem_arg}
-use Rattle.wat_operands.specs.Memory.{ordering_as, with_ordering, atomic_mem_arg, at_front}
-use Rattle.wat_operands.specs.Ordering.{ordering, ordered, at_ordering}
-use Rattle.wat_operands.specs.Tables.{index_or_0}
-use Rattle.wat_operands.specs.declared.lanes.LaneArg.{LaneArg}
-use Rattle.wat_operands.specs.declared.memory.MemArgOrdering.{MemArgOrdering}
-use Rattle.wat_operands.specs.declared.ordering.Ordering.{Ordering}
-use Rattle.wat_operands.specs.declared.ordering.Ordering.TheVariants.{AcqRel, SeqCst}
-use Rattle.wat_print.specs.Form.{Test, any, Form, pick, told_form, group_form, filled_form}
-use Rattle.wat_print.specs.Index.{index_form}
-use Rattle.wat_print.specs.Limits.{is_u64, OfIntegers}
-use Rattle.wat_print.specs.Parts.{each, spell_option}
-use Rattle.wat_print.specs.Prints.{Prints, Unparses}
-use Rattle.wat_print.specs.WellFormed.{is_keyword, is_given}
-use Rattle.wat_print.specs.Laws.Form.{not_true, one_prints, word_prints, seq_prints, made_prints}
-use Rattle.wat_print.specs.Laws.Form.{whole_prints, whole_where, told_prints, else_prints}
-use Rattle.wat_print.specs.Laws.Form.{option_prints, group_prints, prints_only, filled_prints}
-use Rattle.wat_print.specs.Laws.Only.{given_parts}
-use Rattle.wat_print.specs.Laws.Numbers.{no_sign}
-use Rattle.wat_print.specs.Laws.Parts.{well_formed_both, and_also}
-use Rattle.wat_print.specs.Laws.Reference.{index_prints}
-use Rattle.wat_print_instr.specs.Access.{no_type, target_parts, target_form, offset_form}
-use Rattle.wat_print_instr.specs.Access.{is_alignment, align_form, fields_form, Place, place_form}
-use Rattle.wat_print_instr.specs.Access.{place_of, printable_access, access_form, ordering_parts}
-use Rattle.wat_print_instr.specs.Access.{ordering_form, fence_form, ordered_form, ordering_in}
-use Rattle.wat_print_instr.specs.Access.{atomic_parts, printable_ordering, printable_atomic}
-use Rattle.wat_print_instr.specs.Access.{atomic_form, lane_form, lane_access_parts}
-use Rattle.wat_print_instr.specs.Access.{printable_lane_access, lane_access_form}
-use Rattle.wat_print_instr.specs.Form.{next_form}
+use Rattle.wat_print_instr.specs.Access.{no_type, target_parts, target_form, offset_form, is_alignment, align_form, fields_form, Address, address_form, address_of, printable_access, access_form, ordering_parts, ordering_form, fence_form, ordered_form, ordering_in, atomic_parts, printable_ordering, printable_atomic, atomic_form, lane_form, lane_access_parts, printable_lane_access, lane_access_form}
 use Rattle.wat_print_instr.specs.Numbers.{numbered, OfNumbered, numbered_form, is_unsigned}
-use Rattle.wat_print_instr.specs.Places.{is_index_0}
 use Rattle.wat_print_instr.specs.Laws.Form.{default_prints, next_prints}
-use Rattle.wat_print_instr.specs.Laws.Numbers.{same_number, number_text, number_chars}
-use Rattle.wat_print_instr.specs.Laws.Numbers.{unsigned_printable, unsigned_found, unsigned_text}
-use Rattle.wat_print_instr.specs.Laws.Places.{index_or_0_prints}
+use Rattle.wat_print_instr.specs.Laws.Numbers.{number_text, number_chars, unsigned_printable, unsigned_found, unsigned_text}
+use Rattle.wat_print_instr.specs.Laws.Indices.{index_or_0_prints}
+use Rattle.wat_tokens.specs.Laws.Kind.{past_own_front}
 
 -- ---- targets
 
@@ -70,16 +31,11 @@ in_number : (o : Option (List ℕ)) (n : ℕ) → number_in o ≡ Some n → is_
 in_number (Some x) n e = unsigned_found 64 (lit≤ tt) x n e
 in_number None n e = absurd cc
 
-behind_given : (front : List ℕ) (t : Tok) (n : ℕ) → is_given t ≡ true
+behind_given : (front : List ℕ) (t : Token) (n : ℕ) → is_given t ≡ true
     → number_behind front t ≡ Some n → is_u64 n ≡ true
 behind_given front (Keyword w) n a e = in_number (past_front front w) n e
 behind_given front LParen n a e = absurd cc
 behind_given front _ n a e = absurd cc
-
-past_behind : (front x : List ℕ) → past_front front (front ++ x) ≡ Some x
-unfolding past_front
-past_behind [] x = refl
-past_behind (b ∷ front) x = rw (same_number b) (past_behind front x)
 
 field_prints : (front : List ℕ)
     → ((n : ℕ) → n < 2 ^ 64 → is_keyword (front ++ decimal n) ≡ true)
@@ -88,7 +44,7 @@ unfolding field
 field_prints front chars =
     one_prints (number_behind front) (refl, refl) (numbered front) is_u64 (OfNumbered front)
     (λ rest test f n y h k. f n y k) (λ n h. chars n (ltb-true n (2 ^ 64) h))
-    (λ n h. ap number_in (past_behind front (decimal n))
+    (λ n h. ap number_in (past_own_front front (decimal n))
     ∙ number_text n (ltb-true n (2 ^ 64) h))
     (behind_given front)
 
@@ -128,9 +84,9 @@ fields_prints a = next_prints any offset_prints (align_prints a) refl refl (sear
 
 -- ---- accesses
 
-place_prints : (a : ℕ) → Unparses (place_form a) mem_arg_of (mem_arg a)
+address_prints : (a : ℕ) → Unparses (address_form a) mem_arg_of (mem_arg a)
 unfolding mem_arg
-place_prints a =
+address_prints a =
     made_prints (next_prints no_type target_prints (fields_prints a) refl refl
     (search (rules, and_also))) mem_arg_of
 
@@ -138,16 +94,16 @@ is_absent : {A : Type 0} (o : Option A) → is_none o ≡ true → None ≡ o
 is_absent None e = refl
 is_absent (Some x) e = absurd cc
 
-unordered : (a : ℕ) (m : MemArgTy) → printable_access a m ≡ true → mem_arg_of (place_of m) ≡ m
+unordered : (a : ℕ) (m : MemArgModel) → printable_access a m ≡ true → mem_arg_of (address_of m) ≡ m
 unordered a m h =
     ap (λ (o : Option MemArgOrdering). record m { ordering = o }) (is_absent m.ordering
-    (and_parts ((place_form a).printable (place_of m)) (is_none m.ordering) h).1)
+    (and_parts ((address_form a).printable (address_of m)) (is_none m.ordering) h).1)
 
 pub access_prints : (a : ℕ) → Prints (access_form a) (mem_arg a)
 access_prints a =
-    whole_where (place_prints a) place_of (printable_access a) (unordered a)
-    (λ m h. (and_parts ((place_form a).printable (place_of m)) (is_none m.ordering) h).0)
-    (λ v h. and_also ((place_form a).printable v) h)
+    whole_where (address_prints a) address_of (printable_access a) (unordered a)
+    (λ m h. (and_parts ((address_form a).printable (address_of m)) (is_none m.ordering) h).0)
+    (λ v h. and_also ((address_form a).printable v) h)
 
 -- ---- orderings
 
@@ -182,37 +138,37 @@ fence_ready None = refl
 fence_ready (Some o) = refl
 
 module _ (a : ℕ) (rmw : Bool) where
-  abbrev atomic_of : Place × Option Ordering → MemArgTy
+  abbrev atomic_of : Address × Option Ordering → MemArgModel
   atomic_of v = with_ordering rmw (mem_arg_of v.0, v.1)
 
-  atomic_tree : Unparses (next_form no_type (place_form a) fence_form) atomic_of
+  atomic_tree : Unparses (next_form no_type (address_form a) fence_form) atomic_of
       (atomic_mem_arg a rmw)
   unfolding atomic_mem_arg past_front
   atomic_tree =
-      made_prints (next_prints no_type (place_prints a) fence_prints refl refl
+      made_prints (next_prints no_type (address_prints a) fence_prints refl refl
       (search (rules, and_also))) (with_ordering rmw)
 
-  atomic_is : (m : MemArgTy) → printable_atomic a rmw m ≡ true → atomic_of (atomic_parts m) ≡ m
+  atomic_is : (m : MemArgModel) → printable_atomic a rmw m ≡ true → atomic_of (atomic_parts m) ≡ m
   atomic_is m h =
       ap (λ (o : Option MemArgOrdering). record m { ordering = o }) (kind_of rmw m.ordering
-      (and_parts ((place_form a).printable (place_of m)) (printable_ordering rmw m.ordering) h).1)
+      (and_parts ((address_form a).printable (address_of m)) (printable_ordering rmw m.ordering) h).1)
 
   pub atomic_prints : Prints (atomic_form a rmw) (atomic_mem_arg a rmw)
   atomic_prints =
       whole_where atomic_tree atomic_parts (printable_atomic a rmw) atomic_is
       (λ m h. rw (
-        (and_parts ((place_form a).printable (place_of m))
+        (and_parts ((address_form a).printable (address_of m))
             (printable_ordering rmw m.ordering) h).0,
         fence_ready (option_map ordering_in m.ordering),
       ) refl)
       (λ v h. rw (
-        (and_parts ((place_form a).printable v.0) (fence_form.printable v.1) h).0,
+        (and_parts ((address_form a).printable v.0) (fence_form.printable v.1) h).0,
         kind_printable rmw v.1,
       ) refl)
 
 -- ---- lanes
 
-lane_given : (t : Tok) (n : ℕ) → is_given t ≡ true → lane_in t ≡ Some n
+lane_given : (t : Token) (n : ℕ) → is_given t ≡ true → lane_in t ≡ Some n
     → is_unsigned 8 n ≡ true
 lane_given (Integer x) n a e =
     cond_both (is_none (sign_of x)) (unsigned_value 8 x) None
@@ -237,7 +193,7 @@ lane_prints =
 
 -- ---- the target before any tokens that aren't a part of it
 
-abbrev is_memory_0 : TargetTy → Bool
+abbrev is_memory_0 : MemArgTargetModel → Bool
 is_memory_0 (memory i) = is_index_0 i
 is_memory_0 (array i) = false
 
@@ -253,7 +209,8 @@ full_target =
     (made_prints (made_prints (filled_prints at_index index_prints (search rules))
     (λ o. unwrap_or o (number 0))) memory) (λ i r h k. refl) (search rules)
 
-target_here : (t : TargetTy) (x : List Tok) → target_form.ready t ≡ true → no_type x ≡ true
+target_here : (t : MemArgTargetModel) (x : List Token) → target_form.ready t ≡ true
+    → no_type x ≡ true
     → (is_memory_0 t ≡ true → target_form.follows x ≡ true)
     → target.spells t (target_form.spell t) x
 target_here (memory (number zero)) x f e k = target_prints.here (memory (number 0)) x f (k refl)
@@ -265,21 +222,21 @@ target_here (array i) x f e k = full_target.here (inl i) x f (rw e refl)
 -- ---- accesses to one lane
 
 -- the tokens of the offset and the alignment; the flags are true if they are omitted
-abbrev two_words : Bool → Bool → ℕ → ℕ → List Tok
+abbrev two_words : Bool → Bool → ℕ → ℕ → List Token
 two_words b c n k =
     spell_option (numbered_form (codes "offset=") is_u64).spell (if b then None else Some n)
     ++ spell_option (numbered_form (codes "align=") is_alignment).spell
     (if c then None else Some k)
 
 -- no tokens of the offset and the alignment are read as a target
-words_follow : (b c : Bool) (n k : ℕ) (l : List ℕ) (r : List Tok) → b && c ≡ false
+words_follow : (b c : Bool) (n k : ℕ) (l : List ℕ) (r : List Token) → b && c ≡ false
     → target_form.follows (two_words b c n k ++ Integer l ∷ r) ≡ true
 words_follow true true n k l r e = absurd cc
 words_follow true false n k l r e = refl
 words_follow false true n k l r e = refl
 words_follow false false n k l r e = refl
 
-not_alone : (t : TargetTy) (b c : Bool) (n k : ℕ) (l : List ℕ) (r : List Tok)
+not_alone : (t : MemArgTargetModel) (b c : Bool) (n k : ℕ) (l : List ℕ) (r : List Token)
     → is_memory_0 t && (b && c) ≡ false
     → is_alone (((target_form.spell t ++ two_words b c n k) ++ Integer l ∷ []) ++ r) ≡ false
 unfolding past_front
@@ -294,14 +251,14 @@ not_alone (array i) b c n k l r h = refl
 
 module _ (a : ℕ) where
   -- nothing is written before the lane
-  abbrev is_bare : Place → Bool
-  is_bare v = is_memory_0 v.0 && ((v.1.0 == 0) && (v.1.1 == a))
+  abbrev is_default : Address → Bool
+  is_default v = is_memory_0 v.0 && ((v.1.0 == 0) && (v.1.1 == a))
 
-  place_here : (v : Place) (l : List ℕ) (r : List Tok) → (place_form a).ready v ≡ true
-      → is_bare v ≡ false
-      → (mem_arg a).spells (mem_arg_of v) ((place_form a).spell v) (Integer l ∷ r)
+  address_here : (v : Address) (l : List ℕ) (r : List Token) → (address_form a).ready v ≡ true
+      → is_default v ≡ false
+      → (mem_arg a).spells (mem_arg_of v) ((address_form a).spell v) (Integer l ∷ r)
   unfolding mem_arg past_front
-  place_here v l r h b =
+  address_here v l r h b =
       let k = and_parts (target_form.ready v.0) ((fields_form a).ready v.1) h in
       let s = (fields_form a).spell v.1 in
       let x = Integer l ∷ r in
@@ -319,18 +276,18 @@ module _ (a : ℕ) where
         refl,
       )
 
-  bare_is : (t : TargetTy) (n k : ℕ) → is_bare (t, (n, k)) ≡ true
-      → ◌≡◌ {A = Place} (memory (number 0), (0, a)) (t, (n, k))
-  bare_is t n k b = grind arith
+  default_is : (t : MemArgTargetModel) (n k : ℕ) → is_default (t, (n, k)) ≡ true
+      → ◌≡◌ {A = Address} (memory (number 0), (0, a)) (t, (n, k))
+  default_is t n k b = grind arith
 
-  lane_by : (b : Bool) (v : Place) (l : LaneArg) (r : List Tok) → is_bare v ≡ b
-      → (place_form a).ready v ≡ true → lane_form.ready l ≡ true → goes_on r ≡ false
+  lane_by : (b : Bool) (v : Address) (l : LaneArg) (r : List Token) → is_default v ≡ b
+      → (address_form a).ready v ≡ true → lane_form.ready l ≡ true → goes_on r ≡ false
       → (lane_access a).spells (access_of (mem_arg_of v, l))
-      ((place_form a).spell v ++ lane_form.spell l) r
+      ((address_form a).spell v ++ lane_form.spell l) r
   unfolding lane_access
   lane_by true v l r b h k e =
-      subst (λ (w : Place). (lane_access a).spells (access_of (mem_arg_of w, l))
-      ((place_form a).spell w ++ lane_form.spell l) r) (bare_is v.0 v.1.0 v.1.1 b)
+      subst (λ (w : Address). (lane_access a).spells (access_of (mem_arg_of w, l))
+      ((address_form a).spell w ++ lane_form.spell l) r) (default_is v.0 v.1.0 v.1.1 b)
       (rw (same_number a) (inl (ap not e, (l, lane_prints.here l r k refl, refl, refl))))
   lane_by false v l r b h k e =
       inr (
@@ -338,10 +295,10 @@ module _ (a : ℕ) where
         (
           (mem_arg_of v, l),
           (
-            (place_form a).spell v,
+            (address_form a).spell v,
             lane_form.spell l,
             refl,
-            place_here v (decimal l.lane) r h b,
+            address_here v (decimal l.lane) r h b,
             lane_prints.here l r k refl,
           ),
           refl,
@@ -349,54 +306,54 @@ module _ (a : ℕ) where
         ),
       )
 
-  lane_only : (w : LaneAccessTy) (c r : List Tok) → each is_given c ≡ true
+  lane_only : (w : LaneAccessModel) (c r : List Token) → each is_given c ≡ true
       → (lane_access a).spells w c r → printable_lane_access a w ≡ true
   unfolding lane_access
   lane_only w c r g (inl s) =
-      subst (λ (x : LaneAccessTy). printable_lane_access a x ≡ true) s.1.3
+      subst (λ (x : LaneAccessModel). printable_lane_access a x ≡ true) s.1.3
       (rw (same_number a, (prints_only lane_prints).holds s.1.0 c r g s.1.1) refl)
   lane_only w c r g (inr s) =
       let x = s.1.1 in
       let k = given_parts c x.0 x.1 x.2 g in
-      subst (λ (x : LaneAccessTy). printable_lane_access a x ≡ true) s.1.3 (rw (
+      subst (λ (x : LaneAccessModel). printable_lane_access a x ≡ true) s.1.3 (rw (
         (prints_only (access_prints a)).holds s.1.0.0 x.0 (x.1 ++ r) k.0 x.3,
         (prints_only lane_prints).holds s.1.0.1 x.1 r k.1 x.4,
       ) refl)
 
-  lane_front : (rest test : Test) → (place_form a).Fronts any test × OfIntegers rest test
-      → (v : Place × LaneArg) (r : List Tok)
-      → (place_form a).ready v.0 && lane_form.ready v.1 ≡ true → rest r ≡ true
-      → test (((place_form a).spell v.0 ++ lane_form.spell v.1) ++ r) ≡ true
+  lane_front : (rest test : Test) → (address_form a).Fronts any test × OfIntegers rest test
+      → (v : Address × LaneArg) (r : List Token)
+      → (address_form a).ready v.0 && lane_form.ready v.1 ≡ true → rest r ≡ true
+      → test (((address_form a).spell v.0 ++ lane_form.spell v.1) ++ r) ≡ true
   lane_front rest test f v r h i =
-      let k = and_parts ((place_form a).ready v.0) (lane_form.ready v.1) h in
-      subst (λ (x : List Tok). test x ≡ true)
-      (sym (append_assoc ((place_form a).spell v.0) (lane_form.spell v.1) r))
-      ((place_prints a).front any test f.0 v.0 (lane_form.spell v.1 ++ r) k.0 refl
+      let k = and_parts ((address_form a).ready v.0) (lane_form.ready v.1) h in
+      subst (λ (x : List Token). test x ≡ true)
+      (sym (append_assoc ((address_form a).spell v.0) (lane_form.spell v.1) r))
+      ((address_prints a).front any test f.0 v.0 (lane_form.spell v.1 ++ r) k.0 refl
       (f.1 (decimal v.1.lane) r i))
 
-  place_ready : (l : LaneAccessTy) → printable_lane_access a l ≡ true
-      → ((place_form a).ready (place_of l.memarg) ≡ true) × (lane_form.ready l.lane ≡ true)
+  place_ready : (l : LaneAccessModel) → printable_lane_access a l ≡ true
+      → ((address_form a).ready (address_of l.memarg) ≡ true) × (lane_form.ready l.lane ≡ true)
   place_ready l h =
       let k = and_parts (printable_access a l.memarg) (lane_form.printable l.lane) h in
       let m = l.memarg in
-      ((and_parts ((place_form a).printable (place_of m)) (is_none m.ordering) k.0).0, k.1)
+      ((and_parts ((address_form a).printable (address_of m)) (is_none m.ordering) k.0).0, k.1)
 
-  lane_access_here : (l : LaneAccessTy) (r : List Tok) → printable_lane_access a l ≡ true
+  lane_access_here : (l : LaneAccessModel) (r : List Token) → printable_lane_access a l ≡ true
       → not (goes_on r) ≡ true
       → (lane_access a).spells l ((lane_access_form a).spell l) r
   lane_access_here l r h e =
-      let v = place_of l.memarg in
+      let v = address_of l.memarg in
       let w = place_ready l h in
       let o = and_parts (printable_access a l.memarg) (lane_form.printable l.lane) h in
-      subst (λ (m : MemArgTy). (lane_access a).spells (access_of (m, l.lane))
+      subst (λ (m : MemArgModel). (lane_access a).spells (access_of (m, l.lane))
       ((lane_access_form a).spell l) r) (unordered a l.memarg o.0)
-      (lane_by (is_bare v) v l.lane r refl w.0 w.1 (not_true (goes_on r) e))
+      (lane_by (is_default v) v l.lane r refl w.0 w.1 (not-true (goes_on r) e))
 
   pub lane_access_prints : Prints (lane_access_form a) (lane_access a)
   lane_access_prints = record {
     nests = λ l h. (let w = place_ready l h in
-        well_formed_both ((place_form a).spell (place_of l.memarg)) (lane_form.spell l.lane)
-        ((place_prints a).nests (place_of l.memarg) w.0) (lane_prints.nests l.lane w.1));
+        well_formed_both ((address_form a).spell (address_of l.memarg)) (lane_form.spell l.lane)
+        ((address_prints a).nests (address_of l.memarg) w.0) (lane_prints.nests l.lane w.1));
     front = λ rest test f l r h i e. (let w = place_ready l h in
         lane_front rest test f (lane_access_parts l) r (rw (w.0, w.1) refl) i);
     here = lane_access_here;

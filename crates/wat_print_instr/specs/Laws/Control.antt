@@ -1,55 +1,29 @@
 -- Laws: blocks, calls, the types of a `select`, casts, catch clauses and handlers are read again.
-use Rattle.std.specs.Prelude.{◌≡◌, false, List, codes, Some, None}
-use Rattle.std.proofs.Common.{rules, refl, arith, append-nil}
-use Rattle.wat_lexer.specs.Token.{Tok}
-use Rattle.wat_tokens.specs.Index.{identifier}
-use Rattle.wat_tokens.specs.Joined.{all_of, joined}
+use Rattle.std.proofs.Common.{◌≡◌, false, List, codes, Some, None, rules, refl, arith, append-nil}
+use Rattle.wat_expr.specs.Prelude.{block_type, call_indirect, cast_branch, catch_clause, try_table, handler, resume_table, resume, resume_throw, select_types, Catch, CatchRef, CatchAll, CatchAllRef}
+use Rattle.wat_print.specs.Laws.Prelude.{Token, identifier, all_of, joined, opt, begins_id, at_id, at_more, at_word, val_types, val_type_consumes, any, by_itself, vals_form, Prints, word_prints, seq_prints, made_prints, whole_prints, whole_where, respelled, else_prints, option_prints, many_prints, paren_prints, after_prints, group_prints, label_prints, and_also, each_all, index_prints, ref_prints, val_prints, val_form}
+use Rattle.wat_operands.specs.Block.{block_of}
+use Rattle.wat_operands.specs.Call.{call_of}
+use Rattle.wat_operands.specs.Casts.{branch_of}
+use Rattle.wat_operands.specs.CatchClause.{catch_of, catch_kind}
+use Rattle.wat_operands.specs.Catches.{try_of, at_catch}
+use Rattle.wat_operands.specs.Handler.{aim, handler_to}
+use Rattle.wat_operands.specs.Handlers.{resume_of, throw_of, at_handler}
+use Rattle.wat_operands.specs.Select.{at_result}
+use Rattle.wat_print.specs.Laws.Label.{id_prints}
 use Rattle.wat_tokens.specs.NameAnnotation.{begins_name}
-use Rattle.wat_tokens.specs.Parts.{opt}
-use Rattle.wat_tokens.specs.Tests.{begins_id}
-use Rattle.wat_tokens.specs.Test.{at_id, at_more, at_word}
-use Rattle.wat_types.specs.Group.{val_types}
-use Rattle.wat_types.specs.Laws.Value.{val_type_consumes}
-use Rattle.wat_operands.specs.Block.{block_of, block_type}
-use Rattle.wat_operands.specs.Call.{call_of, call_indirect}
-use Rattle.wat_operands.specs.Casts.{branch_of, cast_branch}
-use Rattle.wat_operands.specs.CatchClause.{catch_of, catch_kind, catch_clause}
-use Rattle.wat_operands.specs.Catches.{try_of, try_table, at_catch}
-use Rattle.wat_operands.specs.Handler.{aim, handler_to, handler}
-use Rattle.wat_operands.specs.Handlers.{resume_table, resume_of, resume, throw_of}
-use Rattle.wat_operands.specs.Handlers.{resume_throw, at_handler}
 use Rattle.wat_operands.specs.Laws.Catches.{catch_clause_consumes}
 use Rattle.wat_operands.specs.Laws.Handlers.{handler_consumes}
 use Rattle.wat_operands.specs.Laws.Select.{result_group_consumes}
 use Rattle.wat_operands.specs.ResultGroup.{result_group}
-use Rattle.wat_operands.specs.Select.{select_types, at_result}
-use Rattle.wat_operands.specs.declared.catches.CatchKind.TheVariants.{Catch, CatchRef, CatchAll}
-use Rattle.wat_operands.specs.declared.catches.CatchKind.TheVariants.{CatchAllRef}
-use Rattle.wat_print.specs.Form.{any}
-use Rattle.wat_print.specs.Label.{by_itself}
-use Rattle.wat_print.specs.Function.{vals_form}
-use Rattle.wat_print.specs.Prints.{Prints}
 use Rattle.wat_print.specs.Laws.Use.{EndsUse, unnamed_use_prints}
-use Rattle.wat_print.specs.Laws.Form.{word_prints, seq_prints, made_prints, whole_prints}
-use Rattle.wat_print.specs.Laws.Form.{whole_where, respelled, else_prints, option_prints}
-use Rattle.wat_print.specs.Laws.Form.{many_prints, paren_prints, after_prints, group_prints}
-use Rattle.wat_print.specs.Laws.Label.{id_prints, label_prints}
-use Rattle.wat_print.specs.Laws.Parts.{and_also, each_all}
-use Rattle.wat_print.specs.Laws.Reference.{index_prints, ref_prints, val_prints}
-use Rattle.wat_print.specs.Reference.{val_form}
-use Rattle.wat_print_instr.specs.Control.{block_parts, block_form, call_parts, call_form}
-use Rattle.wat_print_instr.specs.Control.{end_label_form, result_form, results_form, select_form}
-use Rattle.wat_print_instr.specs.Control.{branch_parts, branch_form, catch_kind_parts}
-use Rattle.wat_print_instr.specs.Control.{catch_kind_form, catch_parts, catch_form, try_parts}
-use Rattle.wat_print_instr.specs.Control.{try_form, aim_parts, aim_form, handler_parts}
-use Rattle.wat_print_instr.specs.Control.{handler_form, resume_table_form, resume_parts}
-use Rattle.wat_print_instr.specs.Control.{resume_form, throw_parts, throw_form}
-use Rattle.wat_print_instr.specs.Laws.Places.{index_or_0_prints}
+use Rattle.wat_print_instr.specs.Control.{block_parts, block_form, call_parts, call_form, end_label_form, result_form, results_form, select_form, branch_parts, branch_form, catch_kind_parts, catch_kind_form, catch_parts, catch_form, try_parts, try_form, aim_parts, aim_form, handler_parts, handler_form, resume_table_form, resume_parts, resume_form, throw_parts, throw_form}
+use Rattle.wat_print_instr.specs.Laws.Indices.{index_or_0_prints}
 
 -- ---- blocks and calls
 
 -- the tokens r may follow a block, and aren't read as a part of the block
-abbrev pub EndsBlock : List Tok → Type 0
+abbrev pub EndsBlock : List Token → Type 0
 EndsBlock r = EndsUse r × (begins_id r ≡ false) × (begins_name r ≡ false)
 
 pub block_prints : Prints block_form block_type

@@ -1,40 +1,13 @@
 -- Laws: the round trip of an expression at the end of its group, and the first tokens of an
 -- expression. Each printable expression is well-formed.
-use Rattle.std.specs.Prelude.{◌≡◌, ℕ, ◌+◌, ◌<◌, Bool, true, false, ◌&&◌, ◌==◌, nat_lt, List, []}
-use Rattle.std.specs.Prelude.{◌∷◌, ◌++◌, flat_map, Option, Some, None, codes, option_map, is_some}
-use Rattle.std.specs.Prelude.{if◌then◌else◌, not}
-use Rattle.std.specs.Str.{bytes_eq}
-use Rattle.std.proofs.Common.{refl, ap, subst, sym, append_assoc, arith, rules}
-use Rattle.std.proofs.lemmas.Bool.{and_parts, eqb-true, ltb-true, or_from}
-use Rattle.std.proofs.lemmas.Bool.Decides.{nat_tests}
-use Rattle.wat_lexer.specs.Token.{Tok, LParen, RParen, Keyword, String}
-use Rattle.wat_tokens.specs.Tests.{begins_word, ends, second}
-use Rattle.wat_mnemonics.specs.Table.{all_ops}
-use Rattle.wat_mnemonics.specs.Ops.{op_word, op_row}
-use Rattle.wat_mnemonics.specs.Places.{op_of_row}
-use Rattle.wat_mnemonics.specs.declared.op.Op.{Op}
+use Rattle.std.proofs.Common.{ap, subst, sym, append_assoc, arith, rules, ◌≡◌, ℕ, ◌+◌, ◌<◌, Bool, true, false, ◌&&◌, ◌==◌, nat_lt, List, [], ◌∷◌, ◌++◌, flat_map, Option, Some, None, codes, option_map, is_some, if◌then◌else◌, not, refl}
+use Rattle.wat_print.specs.Laws.Prelude.{and_parts, eqb-true, ltb-true, or_from, nat_tests, end_denied, noted, well_formed_both, well_formed_one}
+use Rattle.wat_print_instr.specs.Prelude.{bytes_eq, Token, LParen, RParen, Keyword, String, begins_word, ends, second, all_ops, op_word, op_row, op_of_row, Op, InstructionModel, at_word, past_front, ExpressionModel, expression, Items, Nil, Plain, Hinted, lists, unfolded, hints_behind, is_branch, hint_name, mark, WellFormed, nothing, is_printable, is_byte, each, if_some, spell_option, HintedInstruction, step_of, spell_hint, spell_step, printable_step, steps_from, spell_expression, printable_expression, hint_for, hints_after, passes, operand_form, spell_instruction, printable_instruction}
+use Rattle.wat_print.specs.Laws.Parts.{well_formed_each}
+use Rattle.wat_print_instr.specs.ExpressionForm.{printable_hint}
 use Rattle.wat_instr.specs.Follows.{NoTypeSecond}
-use Rattle.wat_instr.specs.Instruction.{Instr}
-use Rattle.wat_tokens.specs.Test.{at_word}
-use Rattle.wat_tokens.specs.Laws.Test.{end_denied}
-use Rattle.wat_tokens.specs.Kind.{past_front}
-use Rattle.wat_expr.specs.Expression.{Expr}
-use Rattle.wat_expr.specs.ExpressionProduction.{expression}
-use Rattle.wat_expr.specs.Items.{Items, Nil, Plain, Hinted, lists, unfolded, hints_behind}
-use Rattle.wat_expr.specs.Items.{is_branch, hint_name, mark}
-use Rattle.wat_print.specs.WellFormed.{WellFormed, nothing, noted, is_printable, is_byte}
-use Rattle.wat_print.specs.Parts.{each, if_some, spell_option}
 use Rattle.wat_print.specs.Laws.Annotation.{ascii_name}
-use Rattle.wat_print.specs.Laws.Parts.{well_formed_both, well_formed_each, well_formed_one}
-use Rattle.wat_print_instr.specs.ExpressionForm.{HintedInstr, step_of, spell_hint, printable_hint}
-use Rattle.wat_print_instr.specs.ExpressionForm.{spell_step, printable_step, steps_from}
-use Rattle.wat_print_instr.specs.ExpressionForm.{spell_expression, printable_expression, hint_for}
-use Rattle.wat_print_instr.specs.ExpressionForm.{hints_after}
-use Rattle.wat_print_instr.specs.InstructionForm.{passes, operand_form, spell_instruction}
-use Rattle.wat_print_instr.specs.InstructionForm.{printable_instruction}
-use Rattle.wat_print_instr.specs.Laws.Instruction.{EndsOperand, ends_nothing, ends_annotation}
-use Rattle.wat_print_instr.specs.Laws.Instruction.{instruction_here, instruction_well_formed}
-use Rattle.wat_print_instr.specs.Laws.Instruction.{no_word}
+use Rattle.wat_print_instr.specs.Laws.Instruction.{EndsOperand, ends_nothing, ends_annotation, instruction_here, instruction_well_formed, no_word}
 use Rattle.wat_print_instr.specs.Laws.OperandFront.{NoOperandWord, clear_both, operand_clear}
 
 -- ---- no mnemonic is a word that the parser looks for
@@ -67,35 +40,38 @@ no_align h = no_word (λ u. is_some (past_front (codes "align=") u)) refl h
 -- ---- the first tokens of steps
 
 -- the test fails for each mnemonic (OnWords) and for each hint (OnHints)
-abbrev pub OnWords : (List Tok → Bool) → Type 0
-OnWords test = (h : Op) (y : List Tok) → test (Keyword (op_word h) ∷ y) ≡ false
+abbrev pub OnWords : (List Token → Bool) → Type 0
+OnWords test = (h : Op) (y : List Token) → test (Keyword (op_word h) ∷ y) ≡ false
 
-abbrev pub OnHints : (List Tok → Bool) → Type 0
-OnHints test = (y : List Tok) → test (LParen ∷ hint_name ∷ y) ≡ false
+abbrev pub OnHints : (List Token → Bool) → Type 0
+OnHints test = (y : List Token) → test (LParen ∷ hint_name ∷ y) ≡ false
 
-step_first : (test : List Tok → Bool) → OnWords test → OnHints test → (h : Option ℕ) (i : Instr)
-    (s t : List Tok) → test ((spell_step (step_of h i) ++ s) ++ t) ≡ false
+step_first : (test : List Token → Bool) → OnWords test → OnHints test
+    → (h : Option ℕ) (i : InstructionModel)
+    (s t : List Token) → test ((spell_step (step_of h i) ++ s) ++ t) ≡ false
 step_first test f g (Some v) i s t = g _
 step_first test f g None i s t = f (op_of_row i.row) _
 
-steps_first : (test : List Tok → Bool) → OnWords test → OnHints test → (xs : List HintedInstr)
-    (r : List Tok) → test r ≡ false → test (flat_map spell_step xs ++ r) ≡ false
+steps_first : (test : List Token → Bool) → OnWords test → OnHints test
+    → (xs : List HintedInstruction)
+    (r : List Token) → test r ≡ false → test (flat_map spell_step xs ++ r) ≡ false
 steps_first test f g [] r e = e
 steps_first test f g (x ∷ xs) r e =
     step_first test f g x.hint x.instr (flat_map spell_step xs) r
 
-step_word : (w : List ℕ) → NoMnemonic w → (h : Option ℕ) (i : Instr) (s : List Tok)
+step_word : (w : List ℕ) → NoMnemonic w → (h : Option ℕ) (i : InstructionModel) (s : List Token)
     → begins_word w (spell_step (step_of h i) ++ s) ≡ false
 step_word w n (Some v) i s = refl
 step_word w n None i s = n (op_of_row i.row)
 
-steps_word : (w : List ℕ) → NoMnemonic w → (xs : List HintedInstr)
+steps_word : (w : List ℕ) → NoMnemonic w → (xs : List HintedInstruction)
     → begins_word w (flat_map spell_step xs) ≡ false
 steps_word w n [] = refl
 steps_word w n (x ∷ xs) = step_word w n x.hint x.instr (flat_map spell_step xs)
 
 -- the second token isn't w: neither an operand nor the rest begins with w
-step_second : (w : List ℕ) → NoOperandWord w → (h : Option ℕ) (i : Instr) (s t : List Tok)
+step_second : (w : List ℕ) → NoOperandWord w
+    → (h : Option ℕ) (i : InstructionModel) (s t : List Token)
     → if_some (printable_hint i) h && printable_instruction i ≡ true
     → begins_word w s ≡ false → begins_word w t ≡ false
     → second (begins_word w) ((spell_step (step_of h i) ++ s) ++ t) ≡ false
@@ -106,11 +82,11 @@ step_second w a None i s t k e f =
     let b = and_parts (op_row m == i.row) ((operand_form m).printable i.operand) k in
     clear_both w (c ++ s) t (clear_both w c s (operand_clear w a m i.operand b.1) e) f
 
-pub no_word_at_end : (w : List ℕ) (r : List Tok) → ends r ≡ true → begins_word w r ≡ false
+pub no_word_at_end : (w : List ℕ) (r : List Token) → ends r ≡ true → begins_word w r ≡ false
 no_word_at_end w r e = end_denied (at_word w).asks r refl e
 
 steps_second : (w : List ℕ) → NoOperandWord w → NoMnemonic w
-    → (xs : List HintedInstr) (r : List Tok) → each printable_step xs ≡ true
+    → (xs : List HintedInstruction) (r : List Token) → each printable_step xs ≡ true
     → ends r ≡ true → second (begins_word w) r ≡ false
     → second (begins_word w) (flat_map spell_step xs ++ r) ≡ false
 steps_second w a n [] r k e f = f
@@ -121,27 +97,29 @@ steps_second w a n (x ∷ xs) r k e f =
 
 -- ---- the first tokens of an expression
 
-first_of : (test : List Tok → Bool) → OnWords test → OnHints test
-    → (o : Option (List HintedInstr)) (r : List Tok) → test r ≡ false
+first_of : (test : List Token → Bool) → OnWords test → OnHints test
+    → (o : Option (List HintedInstruction)) (r : List Token) → test r ≡ false
     → test (spell_option (flat_map spell_step) o ++ r) ≡ false
 first_of test f g (Some xs) r k = steps_first test f g xs r k
 first_of test f g None r k = k
 
 -- if the test fails for words and hints, the test fails for expressions
-pub expression_first : (test : List Tok → Bool) → OnWords test → OnHints test → (e : Expr)
-    (r : List Tok) → test r ≡ false → test (spell_expression e ++ r) ≡ false
+pub expression_first : (test : List Token → Bool) → OnWords test → OnHints test
+    → (e : ExpressionModel)
+    (r : List Token) → test r ≡ false → test (spell_expression e ++ r) ≡ false
 expression_first test f g e r k = first_of test f g (steps_from 0 e.instrs e.hints) r k
 
 -- a fact about the tokens of printable steps
-steps_have : (P : List Tok → Type 0)
-    → ((xs : List HintedInstr) → each printable_step xs ≡ true → P (flat_map spell_step xs))
-    → (o : Option (List HintedInstr)) → passes (each printable_step) o ≡ true
+steps_have : (P : List Token → Type 0)
+    → ((xs : List HintedInstruction) → each printable_step xs ≡ true → P (flat_map spell_step xs))
+    → (o : Option (List HintedInstruction)) → passes (each printable_step) o ≡ true
     → P (spell_option (flat_map spell_step) o)
 steps_have P f (Some xs) h = f xs h
 steps_have P f None h = absurd cc
 
 -- the second token of a printable expression isn't the word
-pub expression_second : (w : List ℕ) → NoOperandWord w → NoMnemonic w → (e : Expr) (r : List Tok)
+pub expression_second : (w : List ℕ) → NoOperandWord w → NoMnemonic w
+    → (e : ExpressionModel) (r : List Token)
     → printable_expression e ≡ true → ends r ≡ true → second (begins_word w) r ≡ false
     → second (begins_word w) (spell_expression e ++ r) ≡ false
 expression_second w a n e r f k l =
@@ -149,10 +127,10 @@ expression_second w a n e r f k l =
     (λ xs h. steps_second w a n xs r h k l) (steps_from 0 e.instrs e.hints) f
 
 -- an expression may be followed by nothing, or by a `)` without any of the three words after it
-abbrev pub EndsExpression : List Tok → Type 0
+abbrev pub EndsExpression : List Token → Type 0
 EndsExpression r = (ends r ≡ true) × NoTypeSecond r
 
-steps_no_type : (xs : List HintedInstr) (r : List Tok) → each printable_step xs ≡ true
+steps_no_type : (xs : List HintedInstruction) (r : List Token) → each printable_step xs ≡ true
     → EndsExpression r → NoTypeSecond (flat_map spell_step xs ++ r)
 steps_no_type xs r f k = (
   steps_second (codes "type") refl no_type xs r f k.0 k.1.0,
@@ -160,7 +138,7 @@ steps_no_type xs r f k = (
   steps_second (codes "result") refl no_result xs r f k.0 k.1.2,
 )
 
-pub expression_no_type : (e : Expr) (r : List Tok) → printable_expression e ≡ true
+pub expression_no_type : (e : ExpressionModel) (r : List Token) → printable_expression e ≡ true
     → EndsExpression r → NoTypeSecond (spell_expression e ++ r)
 expression_no_type e r f k =
     steps_have (λ c. NoTypeSecond (c ++ r)) (λ xs h. steps_no_type xs r h k)
@@ -168,7 +146,7 @@ expression_no_type e r f k =
 
 -- ---- the tokens that may follow an instruction
 
-word_ends : {w : Op} (h : Op) (y : List Tok)
+word_ends : {w : Op} (h : Op) (y : List Token)
     → NoTypeSecond (Keyword (op_word h) ∷ y)
     → EndsOperand w (Keyword (op_word h) ∷ y)
 word_ends h y n =
@@ -182,18 +160,18 @@ word_ends h y n =
       no_mnemonic (codes "acqrel") refl h,
     )
 
-pub end_ends : {w : Op} (r : List Tok) → EndsExpression r → EndsOperand w r
+pub end_ends : {w : Op} (r : List Token) → EndsExpression r → EndsOperand w r
 end_ends [] e = ends_nothing
 end_ends (RParen ∷ x) e = search (rules, or_from)
 end_ends (_ ∷ x) e = absurd cc
 
-step_ends : {w : Op} (h : Option ℕ) (i : Instr) (s t : List Tok)
+step_ends : {w : Op} (h : Option ℕ) (i : InstructionModel) (s t : List Token)
     → NoTypeSecond ((spell_step (step_of h i) ++ s) ++ t)
     → EndsOperand w ((spell_step (step_of h i) ++ s) ++ t)
 step_ends (Some v) i s t n = ends_annotation (codes "metadata.code.branch_hint") _ refl
 step_ends None i s t n = word_ends (op_of_row i.row) _ n
 
-steps_ends : {w : Op} (xs : List HintedInstr) (r : List Tok) → each printable_step xs ≡ true
+steps_ends : {w : Op} (xs : List HintedInstruction) (r : List Token) → each printable_step xs ≡ true
     → EndsExpression r → EndsOperand w (flat_map spell_step xs ++ r)
 steps_ends [] r k e = end_ends r e
 steps_ends (x ∷ xs) r k e =
@@ -201,7 +179,8 @@ steps_ends (x ∷ xs) r k e =
 
 -- ---- the first step, and the others
 
-step_by : (t : Bool) (b : ℕ) (i : Instr) (is : List Instr) (h : ℕ × ℕ) (hs : List (ℕ × ℕ))
+step_by : (t : Bool) (b : ℕ) (i : InstructionModel) (is : List InstructionModel) (h : ℕ
+    × ℕ) (hs : List (ℕ × ℕ))
     → (if t then option_map (λ xs. step_of (Some h.1) i ∷ xs) (steps_from (b + 1) is hs)
     else option_map (λ xs. step_of None i ∷ xs) (steps_from (b + 1) is (h ∷ hs)))
     ≡ option_map (λ xs. step_of (if t then Some h.1 else None) i ∷ xs)
@@ -210,7 +189,7 @@ step_by true b i is h hs = refl
 step_by false b i is h hs = refl
 
 -- the first step has the first hint, if the index of the hint is b
-pub next_step : (b : ℕ) (i : Instr) (is : List Instr) (hs : List (ℕ × ℕ))
+pub next_step : (b : ℕ) (i : InstructionModel) (is : List InstructionModel) (hs : List (ℕ × ℕ))
     → steps_from b (i ∷ is) hs
     ≡ option_map (λ xs. step_of (hint_for b hs) i ∷ xs) (steps_from (b + 1) is (hints_after b hs))
 next_step b i is [] = refl
@@ -226,7 +205,7 @@ marked_first : (b : ℕ) (hs : List (ℕ × ℕ)) → mark (hint_for b hs) b ++ 
 marked_first b [] = refl
 marked_first b (h ∷ hs) = marked_by (h.0 == b) b h hs (eqb-true h.0 b)
 
-pub step_more : (h : Option ℕ) (i : Instr) (o : Option (List HintedInstr))
+pub step_more : (h : Option ℕ) (i : InstructionModel) (o : Option (List HintedInstruction))
     → printable_step (step_of h i) ≡ true → passes (each printable_step) o ≡ true
     → passes (each printable_step) (option_map (λ xs. step_of h i ∷ xs) o) ≡ true
 step_more h i (Some xs) f g = rw (f, g) refl
@@ -234,15 +213,15 @@ step_more h i None f g = absurd cc
 
 -- ---- steps are items
 
-abbrev item : Option ℕ → Instr → Items → Items
+abbrev item : Option ℕ → InstructionModel → Items → Items
 item (Some v) i xs = Hinted v (Plain i xs)
 item None i xs = Plain i xs
 
-abbrev pub items_of : List HintedInstr → Items
+abbrev pub items_of : List HintedInstruction → Items
 items_of [] = Nil
 items_of (x ∷ xs) = item x.hint x.instr (items_of xs)
 
-one_listed : (h : Option ℕ) (i : Instr) (xs : List HintedInstr) (t s : List Tok)
+one_listed : (h : Option ℕ) (i : InstructionModel) (xs : List HintedInstruction) (t s : List Token)
     → if_some (printable_hint i) h && printable_instruction i ≡ true → lists (items_of xs) t s
     → EndsOperand (op_of_row i.row) t
     → lists (items_of (step_of h i ∷ xs)) (spell_step (step_of h i) ++ t) s
@@ -259,52 +238,54 @@ one_listed (Some v) i xs t s f l e =
       (t, (c, refl, instruction_here i t a.1 e), l),
     )
 
-steps_listed : (xs : List HintedInstr) (s : List Tok) → each printable_step xs ≡ true
+steps_listed : (xs : List HintedInstruction) (s : List Token) → each printable_step xs ≡ true
     → EndsExpression s → lists (items_of xs) (flat_map spell_step xs ++ s) s
 steps_listed [] s f e = refl
 steps_listed (x ∷ xs) s f e =
     let a = and_parts (printable_step x) (each printable_step xs) f in
-    subst (λ (u : List Tok). lists (items_of (x ∷ xs)) u s)
+    subst (λ (u : List Token). lists (items_of (x ∷ xs)) u s)
     (sym (append_assoc (spell_step x) (flat_map spell_step xs) s))
     (one_listed x.hint x.instr xs (flat_map spell_step xs ++ s) s a.0 (steps_listed xs s a.1 e)
     (steps_ends xs s a.1 e))
 
 -- the expression of the items of steps, with the index b for the first instruction
-abbrev expression_from : ℕ → List HintedInstr → Expr
+abbrev expression_from : ℕ → List HintedInstruction → ExpressionModel
 expression_from b xs = record {
   instrs = unfolded (items_of xs);
   hints = hints_behind None (items_of xs) b;
 }
 
-abbrev Unfolds : ℕ → Expr → Option (List HintedInstr) → Type 0
+abbrev Unfolds : ℕ → ExpressionModel → Option (List HintedInstruction) → Type 0
 Unfolds b e (Some xs) = e ≡ expression_from b xs
 Unfolds b e None = Unit {0}
 
 -- an instruction before the expression, with the index b
-abbrev before : ℕ → Option ℕ → Instr → Expr → Expr
+abbrev before : ℕ → Option ℕ → InstructionModel → ExpressionModel → ExpressionModel
 before b h i e = record { instrs = i ∷ e.instrs; hints = mark h b ++ e.hints }
 
-unfolds_more : (b : ℕ) (h : Option ℕ) (i : Instr) (e : Expr) (o : Option (List HintedInstr))
+unfolds_more : (b : ℕ) (h : Option ℕ) (i : InstructionModel) (e : ExpressionModel) (o : Option
+    (List HintedInstruction))
     → Unfolds (b + 1) e o → Unfolds b (before b h i e) (option_map (λ xs. step_of h i ∷ xs) o)
 unfolds_more b (Some v) i e (Some xs) u = ap (before b (Some v) i) u
 unfolds_more b None i e (Some xs) u = ap (before b None i) u
 unfolds_more b h i e None u = tt
 
 -- the items of steps unfold to the instructions and hints of the steps
-steps_unfold : (b : ℕ) (is : List Instr) (hs : List (ℕ × ℕ))
+steps_unfold : (b : ℕ) (is : List InstructionModel) (hs : List (ℕ × ℕ))
     → Unfolds b (record { instrs = is; hints = hs }) (steps_from b is hs)
 steps_unfold b [] [] = refl
 steps_unfold b [] (h ∷ hs) = tt
 steps_unfold b (i ∷ is) hs =
     let h = hint_for b hs in
     let ks = hints_after b hs in
-    let e : Expr = record { instrs = is; hints = ks } in
+    let e : ExpressionModel = record { instrs = is; hints = ks } in
     subst (Unfolds b (record { instrs = i ∷ is; hints = hs })) (sym (next_step b i is hs))
     (subst (λ (l : List (ℕ × ℕ)). Unfolds b (record { instrs = i ∷ is; hints = l })
     (option_map (λ xs. step_of h i ∷ xs) (steps_from (b + 1) is ks))) (marked_first b hs)
     (unfolds_more b h i e (steps_from (b + 1) is ks) (steps_unfold (b + 1) is ks)))
 
-steps_closed : (e : Expr) (o : Option (List HintedInstr)) (r : List Tok) → Unfolds 0 e o
+steps_closed : (e : ExpressionModel) (o : Option (List HintedInstruction)) (r : List Token)
+    → Unfolds 0 e o
     → passes (each printable_step) o ≡ true → EndsExpression r
     → expression.spells e (spell_option (flat_map spell_step) o) r
 unfolding expression
@@ -312,7 +293,8 @@ steps_closed e None r u f k = absurd cc
 steps_closed e (Some xs) r u f k = (items_of xs, steps_listed xs r f k, k.0, u)
 
 -- at the end of its group
-pub expression_closed : (e : Expr) (r : List Tok) → printable_expression e ≡ true → EndsExpression r
+pub expression_closed : (e : ExpressionModel) (r : List Token) → printable_expression e ≡ true
+    → EndsExpression r
     → expression.spells e (spell_expression e) r
 expression_closed e r f k =
     steps_closed e (steps_from 0 e.instrs e.hints) r (steps_unfold 0 e.instrs e.hints) f k
@@ -322,14 +304,15 @@ expression_closed e r f k =
 byte_well_formed : (v : ℕ) → v < 2 → is_printable (String (v ∷ [])) ≡ true
 byte_well_formed v lt = let e : is_byte v ≡ true = grind (arith, nat_tests) in rw e refl
 
-hint_well_formed : (i : Instr) (v : ℕ) → printable_hint i v ≡ true → WellFormed (spell_hint v)
+hint_well_formed : (i : InstructionModel) (v : ℕ) → printable_hint i v ≡ true
+    → WellFormed (spell_hint v)
 hint_well_formed i v f =
     let b = and_parts (is_branch i) (nat_lt v 2) f in
     noted (codes "metadata.code.branch_hint") (String (v ∷ []) ∷ []) []
     (ascii_name (codes "metadata.code.branch_hint") refl) refl
     (well_formed_one (String (v ∷ [])) (byte_well_formed v (ltb-true v 2 b.1))) nothing
 
-step_well_formed : (h : Option ℕ) (i : Instr)
+step_well_formed : (h : Option ℕ) (i : InstructionModel)
     → if_some (printable_hint i) h && printable_instruction i ≡ true
     → WellFormed (spell_step (step_of h i))
 step_well_formed None i f = instruction_well_formed i f
@@ -338,7 +321,7 @@ step_well_formed (Some v) i f =
     well_formed_both (spell_hint v) (spell_instruction i) (hint_well_formed i v a.0)
     (instruction_well_formed i a.1)
 
-pub expression_well_formed : (e : Expr) → printable_expression e ≡ true
+pub expression_well_formed : (e : ExpressionModel) → printable_expression e ≡ true
     → WellFormed (spell_expression e)
 expression_well_formed e f =
     steps_have WellFormed

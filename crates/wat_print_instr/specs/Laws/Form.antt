@@ -1,23 +1,8 @@
 -- Laws: the forms of this crate, and the facts that they need.
-use Rattle.std.specs.Prelude.{◌≡◌, Bool, true, false, ◌&&◌, List, [], ◌∷◌, ◌++◌, Option, Some, None}
-use Rattle.std.specs.Prelude.{unwrap_or}
-use Rattle.std.proofs.Common.{refl, subst, sym, append_assoc}
-use Rattle.std.proofs.lemmas.Bool.{and_parts, cond_both}
-use Rattle.wat_lexer.specs.Token.{Tok}
-use Rattle.wat_tokens.specs.Parts.{made, opt, seq}
-use Rattle.wat_tokens.specs.Production.{Production}
-use Rattle.wat_tokens.specs.Test as asked
-use Rattle.wat_tokens.specs.Test.{run}
-use Rattle.wat_tokens.specs.Tests.{none_left}
-use Rattle.wat_print.specs.Form.{Test, any, Form}
-use Rattle.wat_print.specs.Parts.{if_some}
-use Rattle.wat_print.specs.Printed.{Printing}
-use Rattle.wat_print.specs.Prints.{Prints, Unparses, Nests, Must}
-use Rattle.wat_print.specs.WellFormed.{WellFormed}
-use Rattle.wat_print.specs.Laws.Form.{made_prints, option_prints, whole_where, passes_of}
-use Rattle.wat_print.specs.Laws.Only.{OnlyPrintable, given_parts}
-use Rattle.wat_print.specs.Laws.Parts.{well_formed_both}
+use Rattle.std.proofs.Common.{◌≡◌, Bool, true, false, ◌&&◌, List, [], ◌∷◌, ◌++◌, Option, Some, None, unwrap_or, refl, subst, sym, append_assoc}
+use Rattle.wat_print.specs.Laws.Prelude.{and_parts, cond_both, Token, made, opt, seq, Production, run, none_left, Test, any, Form, if_some, Printing, Prints, Unparses, Nests, Must, WellFormed, made_prints, option_prints, whole_where, passes_of, OnlyPrintable, given_parts, well_formed_both}
 use Rattle.wat_print_instr.specs.Form.{unless, default_form, next_form, plain_form, exactly}
+use Rattle.wat_tokens.specs.Test as asked
 
 -- d is the default
 module _ {A : Type 0} {form : Form A} {g : Production A} (begins : asked.Test) (p : Prints form g)
@@ -61,20 +46,20 @@ module _ {A B C D : Type 0} {form : Form A} {other : Form B} {view : A → C} {a
         (subst (λ (x : Bool). Nests x (other.spell v.1)) c (q.nests v.1 a.1))
 
     -- the second part, before the rest
-    second_front : (rest test : Test) → other.Fronts rest test → (v : B) (r : List Tok)
+    second_front : (rest test : Test) → other.Fronts rest test → (v : B) (r : List Token)
         → other.ready v ≡ true → rest r ≡ true → test r ≡ true → test (other.spell v ++ r) ≡ true
     second_front rest test f v r k i e =
         q.front rest test f v r k i (passes_of other.empty test r e)
 
     next_front : (rest test : Test)
         → other.Fronts rest rest × (form.Fronts rest test × other.Fronts rest test) → (v : A × B)
-        (r : List Tok)
+        (r : List Token)
         → form.ready v.0 && other.ready v.1 ≡ true → rest r ≡ true → test r ≡ true
         → test ((form.spell v.0 ++ other.spell v.1) ++ r) ≡ true
     next_front rest test f v r k i e =
         let a = and_parts (form.ready v.0) (other.ready v.1) k in
         let x = other.spell v.1 ++ r in
-        subst (λ (l : List Tok). test l ≡ true)
+        subst (λ (l : List Token). test l ≡ true)
         (sym (append_assoc (form.spell v.0) (other.spell v.1) r))
         (p.front rest test f.1.0 v.0 x a.0 (second_front rest rest f.0 v.1 r a.1 i i)
         (passes_of form.empty test x (second_front rest test f.1.1 v.1 r a.1 i e)))
@@ -103,8 +88,8 @@ module _ {A B C D : Type 0} {form : Form A} {other : Form B} {view : A → C} {a
     }
 
 pub plain_prints : {A : Type 0} {g : Production A} {printable : A → Bool} {follows : Test}
-    (spell : A → List Tok) → ((v : A) → printable v ≡ true → WellFormed (spell v))
-    → ((v : A) (r : List Tok) → printable v ≡ true → follows r ≡ true → g.spells v (spell v) r)
+    (spell : A → List Token) → ((v : A) → printable v ≡ true → WellFormed (spell v))
+    → ((v : A) (r : List Token) → printable v ≡ true → follows r ≡ true → g.spells v (spell v) r)
     → OnlyPrintable g printable → Prints (plain_form spell printable follows) g
 plain_prints spell well_formed here only = record {
   nests = well_formed;
@@ -113,12 +98,12 @@ plain_prints spell well_formed here only = record {
   only = λ v c r a s. (v, refl, only.holds v c r a s);
 }
 
-at_end : (r : List Tok) → none_left r ≡ true → [] ≡ r
+at_end : (r : List Token) → none_left r ≡ true → [] ≡ r
 at_end [] e = refl
 at_end (x ∷ r) e = absurd cc
 
 pub exactly_prints : {A : Type 0} {g : Production A} (p : Printing g) → Prints (exactly p) g
 exactly_prints {g = g} p =
     plain_prints p.spell p.well_formed
-    (λ v r h e. (subst (λ (l : List Tok). g.spells v (p.spell v) l) (at_end r e) (p.spells v h)))
+    (λ v r h e. (subst (λ (l : List Token). g.spells v (p.spell v) l) (at_end r e) (p.spells v h)))
     (record { holds = p.only })

@@ -1,66 +1,24 @@
 -- Laws: round trips of instructions.
-use Rattle.std.specs.Prelude.{◌≡◌, ℕ, suc, zero, ◌<◌, Bool, true, false, not, ◌&&◌, ◌==◌, List, []}
-use Rattle.std.specs.Prelude.{◌∷◌, ◌++◌, codes, Option, Some, None, length}
-use Rattle.std.specs.Str.{bytes_eq}
-use Rattle.std.proofs.Common.{rules, refl, ap, subst, sym, ◌∙◌, get_or, arith}
-use Rattle.std.proofs.lemmas.Bool.{and_parts, eqb-true, not_from_false, and_from}
-use Rattle.wat_lexer.specs.Token.{Tok, LParen, Keyword, Annotation}
+use Rattle.std.proofs.Common.{◌≡◌, ℕ, suc, zero, ◌<◌, Bool, true, false, not, ◌&&◌, ◌==◌, List, [], ◌∷◌, ◌++◌, codes, Option, Some, None, length, rules, refl, ap, subst, sym, ◌∙◌, get_or, arith}
+use Rattle.std.proofs.lemmas.Bool.{not_from_false}
+use Rattle.wat_expr.specs.Prelude.{bytes_eq, and_parts, eqb-true, and_from, Token, LParen, Keyword, Annotation, begins_index, made, Production, begins_word, begins_catch, begins_handler, goes_on, array_follows, begins_with, begins_ordering, result_follows, access_align, atomic_access_align, rmw_access_align, lane_access_align, there, op_word, op_row, op_of_row, all_ops, Op, InstructionModel, instr_of, instruction, Operand, operand, nothing, block, one_index, two_indices, branches, call, chosen, access, ordered_index, ordered_indices, lane, heap, sized, reference, cast, integer, float, fence, vector, shuffled, caught, resumed, thrown, not-true}
+use Rattle.wat_print.specs.Laws.Prelude.{Test, Form, blank_form, each, spell_option, Prints, Nests, Passes, WellFormed, is_given, is_keyword, prints_only, OnlyPrintable, given_parts, index_prints, ref_prints, put_both, same_number}
+use Rattle.wat_mnemonics.specs.Laws.TableIndex.{index_below, table_length}
+use Rattle.wat_mnemonics.specs.TableIndex.{table_index}
+use Rattle.wat_instr.specs.Operand.{label, lane_access}
+use Rattle.wat_print.specs.Laws.Reference.{heap_prints}
 use Rattle.wat_tokens.specs.Followed.{blank}
-use Rattle.wat_tokens.specs.Index.{begins_index}
-use Rattle.wat_tokens.specs.Parts.{made}
-use Rattle.wat_tokens.specs.Production.{Production}
-use Rattle.wat_tokens.specs.Tests.{begins_word}
-use Rattle.wat_operands.specs.Catches.{begins_catch}
-use Rattle.wat_operands.specs.Handlers.{begins_handler}
-use Rattle.wat_operands.specs.Lanes.{goes_on}
-use Rattle.wat_operands.specs.Memory.{array_follows, begins_with}
-use Rattle.wat_operands.specs.Ordering.{begins_ordering}
-use Rattle.wat_operands.specs.Select.{result_follows}
-use Rattle.wat_mnemonics.specs.Access.{access_align, atomic_access_align, rmw_access_align}
-use Rattle.wat_mnemonics.specs.Access.{lane_access_align}
-use Rattle.wat_mnemonics.specs.Laws.Places.{there, place_below, table_length}
-use Rattle.wat_mnemonics.specs.Ops.{op_word, op_row}
 use Rattle.wat_mnemonics.specs.Order.{first}
-use Rattle.wat_mnemonics.specs.Places.{op_of_row, place}
-use Rattle.wat_mnemonics.specs.Table.{all_ops}
-use Rattle.wat_mnemonics.specs.declared.op.Op.{Op}
-use Rattle.wat_mnemonics.specs.declared.op.Op.TheVariants as ops
-use Rattle.wat_instr.specs.Instruction.{Instr, instr_of, instruction}
-use Rattle.wat_instr.specs.Operand.{Operand, operand, nothing, block, label, one_index, two_indices}
-use Rattle.wat_instr.specs.Operand.{branches, call, chosen, access, ordered_index, ordered_indices}
-use Rattle.wat_instr.specs.Operand.{lane_access, lane, heap, sized, reference, cast, integer, float}
-use Rattle.wat_instr.specs.Operand.{fence, vector, shuffled, caught, resumed, thrown}
-use Rattle.wat_print.specs.Form.{Test, Form, blank_form}
-use Rattle.wat_print.specs.Parts.{each, spell_option}
-use Rattle.wat_print.specs.Prints.{Prints, Nests, Passes}
-use Rattle.wat_print.specs.WellFormed.{WellFormed, is_given, is_keyword}
-use Rattle.wat_print.specs.WellFormed as well_formed
-use Rattle.wat_print.specs.Laws.Form.{not_true, prints_only}
-use Rattle.wat_print.specs.Laws.Only.{OnlyPrintable, given_parts}
 use Rattle.wat_print.specs.Laws.Parts.{well_formed_word}
-use Rattle.wat_print.specs.Laws.Reference.{index_prints, heap_prints, ref_prints}
-use Rattle.wat_print.specs.Laws.Written.{put_both}
 use Rattle.wat_print_instr.specs.FoldedForm.{takes_catches}
-use Rattle.wat_print_instr.specs.InstructionForm.{found_nothing, found_block, found_label}
-use Rattle.wat_print_instr.specs.InstructionForm.{found_one_index, found_two_indices}
-use Rattle.wat_print_instr.specs.InstructionForm.{found_branches, found_call, found_chosen}
-use Rattle.wat_print_instr.specs.InstructionForm.{found_access, found_ordered_index}
-use Rattle.wat_print_instr.specs.InstructionForm.{found_ordered_indices, found_lane_access}
-use Rattle.wat_print_instr.specs.InstructionForm.{found_lane, found_heap, found_sized}
-use Rattle.wat_print_instr.specs.InstructionForm.{found_reference, found_cast, found_integer}
-use Rattle.wat_print_instr.specs.InstructionForm.{found_float, found_fence, found_vector}
-use Rattle.wat_print_instr.specs.InstructionForm.{found_shuffled, found_caught, found_resumed}
-use Rattle.wat_print_instr.specs.InstructionForm.{found_thrown, passes, found_form, operand_form}
-use Rattle.wat_print_instr.specs.InstructionForm.{spell_instruction, printable_instruction}
-use Rattle.wat_print_instr.specs.Laws.Access.{access_prints, fence_prints, ordered_prints}
-use Rattle.wat_print_instr.specs.Laws.Access.{atomic_prints, lane_prints, lane_access_prints}
-use Rattle.wat_print_instr.specs.Laws.Control.{EndsBlock, block_prints, call_prints}
-use Rattle.wat_print_instr.specs.Laws.Control.{end_label_prints, select_prints, branch_prints}
-use Rattle.wat_print_instr.specs.Laws.Control.{try_prints, resume_prints, throw_prints}
-use Rattle.wat_print_instr.specs.Laws.Numbers.{same_number, halves_32, halves_64, signed_prints}
-use Rattle.wat_print_instr.specs.Laws.Places.{index_or_0_prints, pair_prints, init_prints}
-use Rattle.wat_print_instr.specs.Laws.Places.{copy_prints, sized_prints, br_table_prints}
+use Rattle.wat_print_instr.specs.InstructionForm.{found_nothing, found_block, found_label, found_one_index, found_two_indices, found_branches, found_call, found_chosen, found_access, found_ordered_index, found_ordered_indices, found_lane_access, found_lane, found_heap, found_sized, found_reference, found_cast, found_integer, found_float, found_fence, found_vector, found_shuffled, found_caught, found_resumed, found_thrown, passes, found_form, operand_form, spell_instruction, printable_instruction}
+use Rattle.wat_print_instr.specs.Laws.Access.{access_prints, fence_prints, ordered_prints, atomic_prints, lane_prints, lane_access_prints}
+use Rattle.wat_print_instr.specs.Laws.Control.{EndsBlock, block_prints, call_prints, end_label_prints, select_prints, branch_prints, try_prints, resume_prints, throw_prints}
+use Rattle.wat_print_instr.specs.Laws.Numbers.{halves_32, halves_64, signed_prints}
+use Rattle.wat_print_instr.specs.Laws.Indices.{index_or_0_prints, pair_prints, init_prints, copy_prints, sized_prints, br_table_prints}
 use Rattle.wat_print_instr.specs.Laws.Vectors.{vector_prints, shuffle_prints, none_prints}
+use Rattle.wat_mnemonics.specs.declared.op.Op.TheVariants as ops
+use Rattle.wat_print.specs.WellFormed as well_formed
 
 -- ---- an operand is made of the value that is found in it
 
@@ -143,13 +101,13 @@ thrown_held = record { back = λ v. refl; made_of = λ o v e. grind arith }
 -- ---- operands
 
 -- the rest begins with neither word of an access, and isn't mistaken for a group of `type`
-abbrev pub EndsAccess : List Tok → Type 0
+abbrev pub EndsAccess : List Token → Type 0
 EndsAccess r =
     (begins_with (codes "offset=") r ≡ false) × (begins_with (codes "align=") r ≡ false)
     × (begins_word (codes "type") r ≡ false) × (array_follows r ≡ false)
 
 -- the tokens r may follow the operand of h, and aren't read as a part of the operand
-pub record EndsOperand (h : Op) (r : List Tok) : Type 0 where
+pub record EndsOperand (h : Op) (r : List Token) : Type 0 where
   pub no_index : begins_index r ≡ false
   pub no_lane : goes_on r ≡ false
   pub no_ordering : begins_ordering r ≡ false
@@ -163,7 +121,7 @@ pub ends_nothing : {h : Op} → EndsOperand h []
 ends_nothing = search rules
 
 -- a group that begins with an annotation other than `@name`
-pub ends_annotation : {h : Op} (n : List ℕ) (x : List Tok)
+pub ends_annotation : {h : Op} (n : List ℕ) (x : List Token)
     → bytes_eq n (codes "name") ≡ false → EndsOperand h (LParen ∷ Annotation n ∷ x)
 ends_annotation n x e = search rules
 
@@ -178,19 +136,19 @@ module _ {A : Type 0} {form : Form A} {g : Production A} {make : A → Operand}
         subst (λ (b : Bool). Nests b (form.spell v)) balanced (p.nests v h)
     found_nests None h = absurd cc
 
-    found_front : (rest test : Test) → form.Fronts rest test → (o : Option A) (r : List Tok)
+    found_front : (rest test : Test) → form.Fronts rest test → (o : Option A) (r : List Token)
         → passes form.ready o ≡ true → rest r ≡ true → Passes form.empty test r
         → test (spell_option form.spell o ++ r) ≡ true
     found_front rest test f (Some v) r h i e = p.front rest test f v r h i e
     found_front rest test f None r h i e = absurd cc
 
-    found_here : (o : Operand) (x : Option A) (r : List Tok) → from o ≡ x
+    found_here : (o : Operand) (x : Option A) (r : List Token) → from o ≡ x
         → passes form.ready x ≡ true → form.follows r ≡ true
         → (made make g).spells o (spell_option form.spell x) r
     found_here o (Some v) r e h k = (v, p.here v r h k, refl, held.made_of o v e)
     found_here o None r e h k = absurd cc
 
-    found_only : (o : Operand) (c r : List Tok) → each is_given c ≡ true
+    found_only : (o : Operand) (c r : List Token) → each is_given c ≡ true
         → (made make g).spells o c r → passes form.printable (from o) ≡ true
     found_only o c r a s =
         subst (λ (u : Operand). passes form.printable (from u) ≡ true) s.3
@@ -302,7 +260,7 @@ operand_nests h o f =
     ((operand_prints h).nests o (operand_ready h o f))
 
 -- the operand of h is read before a rest that may follow it
-operand_ends : (h : Op) (r : List Tok) → EndsOperand h r → (operand_form h).follows r ≡ true
+operand_ends : (h : Op) (r : List Token) → EndsOperand h r → (operand_form h).follows r ≡ true
 operand_ends (ops.Block op) r e = search (rules, not_from_false, and_from)
 operand_ends ops.try_table r e = search (rules, not_from_false, and_from, e.no_catch)
 operand_ends _ r e = search (rules, not_from_false, and_from)
@@ -320,13 +278,13 @@ test_at test (x ∷ xs) (suc k) e l =
 pub every_op : (test : Op → Bool) → each test all_ops ≡ true → (h : Op) → test h ≡ true
 every_op test e h =
     subst (λ (x : Op). test x ≡ true) (there h)
-    (test_at test all_ops (place h) e
-    (let l = table_length in let b = place_below h in omega arith))
+    (test_at test all_ops (table_index h) e
+    (let l = table_length in let b = index_below h in omega arith))
 
 -- no mnemonic passes the test
 pub no_word : (test : List ℕ → Bool) → each (λ h. not (test (op_word h))) all_ops ≡ true
     → (h : Op) → test (op_word h) ≡ false
-no_word test e h = not_true (test (op_word h)) (every_op (λ x. not (test (op_word x))) e h)
+no_word test e h = not-true (test (op_word h)) (every_op (λ x. not (test (op_word x))) e h)
 
 pub word_printable : (h : Op) → is_keyword (op_word h) ≡ true
 word_printable h = every_op (λ x. is_keyword (op_word x)) refl h
@@ -348,7 +306,7 @@ printable_of h o =
 -- a word and an operand, one after the other
 pub ruleset instruction_put = (put_both, spell_of, printable_of, there, same_number)
 
-spells_of : (h : Op) (o : Operand) (r : List Tok) → (operand_form h).printable o ≡ true
+spells_of : (h : Op) (o : Operand) (r : List Token) → (operand_form h).printable o ≡ true
     → EndsOperand h r
     → instruction.spells (instr_of h o) (Keyword (op_word h) ∷ (operand_form h).spell o) r
 unfolding instruction
@@ -362,7 +320,8 @@ spells_of h o r f e = (
 )
 
 -- the instruction of the row
-of_row : (i : Instr) → printable_instruction i ≡ true → instr_of (op_of_row i.row) i.operand ≡ i
+of_row : (i : InstructionModel) → printable_instruction i ≡ true
+    → instr_of (op_of_row i.row) i.operand ≡ i
 of_row i f =
     let h = op_of_row i.row in
     let a = and_parts (op_row h == i.row) ((operand_form h).printable i.operand) f in
@@ -370,15 +329,15 @@ of_row i f =
     (eqb-true (op_row h) i.row a.0)
 
 -- if the rest isn't read as a part of the instruction
-pub instruction_here : (i : Instr) (r : List Tok) → printable_instruction i ≡ true
+pub instruction_here : (i : InstructionModel) (r : List Token) → printable_instruction i ≡ true
     → EndsOperand (op_of_row i.row) r → instruction.spells i (spell_instruction i) r
 instruction_here i r f e =
     let h = op_of_row i.row in
     let a = and_parts (op_row h == i.row) ((operand_form h).printable i.operand) f in
-    subst (λ (x : Instr). instruction.spells x (spell_instruction i) r) (of_row i f)
+    subst (λ (x : InstructionModel). instruction.spells x (spell_instruction i) r) (of_row i f)
     (spells_of h i.operand r a.1 e)
 
-pub instruction_well_formed : (i : Instr) → printable_instruction i ≡ true
+pub instruction_well_formed : (i : InstructionModel) → printable_instruction i ≡ true
     → WellFormed (spell_instruction i)
 instruction_well_formed i f =
     let h = op_of_row i.row in
@@ -386,14 +345,14 @@ instruction_well_formed i f =
     well_formed_word (op_word h) ((operand_form h).spell i.operand) (word_printable h)
     (operand_nests h i.operand a.1)
 
-instruction_holds : (i : Instr) (c r : List Tok) → each is_given c ≡ true
+instruction_holds : (i : InstructionModel) (c r : List Token) → each is_given c ≡ true
     → instruction.spells i c r → printable_instruction i ≡ true
 unfolding instruction
 instruction_holds i c r a s =
     let h = s.0 in
     let o = s.5.0 in
     let g = (given_parts c s.1 s.2 s.3 a).1 in
-    subst (λ (x : Instr). printable_instruction x ≡ true) s.5.3
+    subst (λ (x : InstructionModel). printable_instruction x ≡ true) s.5.3
     (printable_of h o ∙ (prints_only (operand_prints h)).holds o s.2 r g s.5.1)
 
 pub instruction_only : OnlyPrintable instruction printable_instruction

@@ -1,32 +1,11 @@
 -- Laws: round trips of signed and unsigned numbers, and of words that end in a number.
-use Rattle.std.specs.Prelude.{List, ◌≡◌, ℕ, ℤ, zero, suc, pos, negsuc, ◌^◌, ◌-◌, ◌<◌, ◌≤◌, ◌==◌}
-use Rattle.std.specs.Prelude.{◌-ℤ◌, neg_ℤ, true, nat_lt, nat_le, Option, Some, None, option_map}
-use Rattle.std.specs.Prelude.{decimal}
-use Rattle.std.specs.Fmt.{signed_decimal}
-use Rattle.std.proofs.Common.{refl, lit≤, arith, subst, sym}
-use Rattle.std.proofs.lemmas.Bool.{cond_both, leb-true, lt-ltb, ltb-false, ltb-true}
-use Rattle.std.proofs.lemmas.Bool.Decides.{nat_tests}
-use Rattle.std.proofs.lemmas.Fmt.{decimal_is_IsNumeral}
-use Rattle.std.proofs.lemmas.Int.{ints}
-use Rattle.wat_lexer.specs.Number.{signed_value, signed_by, sign_of, magnitude, without_sign, up_to}
-use Rattle.wat_lexer.specs.Number.{twos_complement, unsigned_value}
-use Rattle.wat_lexer.specs.Bytes.{is_idchar}
-use Rattle.wat_lexer.specs.Token.{Tok, LParen, Integer}
-use Rattle.wat_lexer.specs.declared.number.Sign.{Sign}
-use Rattle.wat_lexer.specs.declared.number.Sign.TheVariants.{Minus}
-use Rattle.wat_tokens.specs.Integers.{signed, signed_of, unsigned, unsigned_of}
-use Rattle.wat_print.specs.Text.{all_are}
-use Rattle.wat_print.specs.Limits.{OfIntegers}
-use Rattle.wat_print.specs.Prints.{Prints}
-use Rattle.wat_print.specs.WellFormed.{is_printable, is_given}
-use Rattle.wat_print.specs.Laws.Form.{one_prints}
-use Rattle.wat_print.specs.Laws.Numbers.{magnitude_decimal, decimal_printable, no_sign}
-use Rattle.wat_print.specs.Laws.Numbers.{digits_idchars, unsigned_decimal, unsigned_fits}
-use Rattle.wat_print_instr.specs.Numbers.{Halves, is_signed, signed_form, is_unsigned}
-use Rattle.wat_print_instr.specs.Numbers.{unsigned_form}
-
-pub same_number : (n : ℕ) → (n == n) ≡ true
-same_number n = grind (arith, nat_tests)
+use Rattle.std.proofs.Common.{neg_ℤ, List, ◌≡◌, ℕ, ℤ, zero, suc, pos, negsuc, ◌^◌, ◌-◌, ◌<◌, ◌≤◌, ◌-ℤ◌, true, nat_lt, nat_le, Option, Some, None, option_map, decimal, refl, lit≤, arith, subst, sym}
+use Rattle.std.proofs.lemmas.Bool.{ltb-false}
+use Rattle.wat_print.specs.Laws.Prelude.{signed_decimal, cond_both, leb-true, lt-ltb, ltb-true, nat_tests, decimal_is_IsNumeral, ints, signed_value, sign_of, magnitude, without_sign, up_to, twos_complement, unsigned_value, is_idchar, Token, LParen, Integer, Sign, Minus, signed, unsigned, unsigned_of, all_are, OfIntegers, Prints, is_printable, is_given, one_prints, magnitude_decimal, decimal_printable, no_sign, unsigned_decimal, unsigned_fits}
+use Rattle.wat_lexer.specs.Number.{signed_by}
+use Rattle.wat_tokens.specs.Integers.{signed_of}
+use Rattle.wat_print.specs.Laws.Numbers.{digits_idchars}
+use Rattle.wat_print_instr.specs.Numbers.{Halves, is_signed, signed_form, is_unsigned, unsigned_form}
 
 -- ---- signed numbers
 
@@ -93,7 +72,7 @@ signed_given_by (Some Minus) bits z o k e =
 signed_given_by _ bits z o k e =
     some_signed bits z o (twos_complement bits) (2 ^ bits - 1) (λ m h. (complement_is bits m k h)) e
 
-signed_given : (bits : ℕ) → Halves bits → (t : Tok) (z : ℤ) → is_given t ≡ true
+signed_given : (bits : ℕ) → Halves bits → (t : Token) (z : ℤ) → is_given t ≡ true
     → signed_of bits t ≡ Some z → is_signed bits z ≡ true
 signed_given bits k (Integer x) z a e =
     signed_given_by (sign_of x) bits z (magnitude (without_sign x)) k e
@@ -137,7 +116,7 @@ pub unsigned_found : (bits : ℕ) → 1 ≤ 2 ^ bits → (x : List ℕ) (n : ℕ
 unsigned_found bits p x n e =
     let le = unsigned_fits bits x n e in lt-ltb n (2 ^ bits) (omega arith)
 
-unsigned_given : (bits : ℕ) → 1 ≤ 2 ^ bits → (t : Tok) (n : ℕ) → is_given t ≡ true
+unsigned_given : (bits : ℕ) → 1 ≤ 2 ^ bits → (t : Token) (n : ℕ) → is_given t ≡ true
     → unsigned_of bits t ≡ Some n → is_unsigned bits n ≡ true
 unsigned_given bits p (Integer x) n a e = unsigned_found bits p x n e
 unsigned_given bits p LParen n a e = absurd cc

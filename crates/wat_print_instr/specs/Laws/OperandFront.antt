@@ -1,25 +1,12 @@
 -- Laws: the tokens that are written for an operand begin with no word that the parser looks for
 -- after the word of an instruction.
-use Rattle.std.specs.Prelude.{◌≡◌, ℕ, ◌==◌, Bool, true, false, not, List, [], ◌∷◌, ◌++◌, codes}
-use Rattle.std.specs.List.{list_any}
-use Rattle.std.specs.Str.{bytes_eq}
-use Rattle.std.proofs.Common.{rules, refl, subst, append-nil, inl, inr}
-use Rattle.std.proofs.lemmas.Bool.{cases_Bool}
-use Rattle.std.proofs.lemmas.Slice.Eq.{bytes_eq-Decides}
-use Rattle.wat_lexer.specs.Token.{Tok, Keyword}
-use Rattle.wat_tokens.specs.Tests.{begins_word}
-use Rattle.wat_types.specs.Heap.{abstract_word}
-use Rattle.wat_types.specs.declared.heap.AbstractHeapType.{AbstractHeapType}
-use Rattle.wat_types.specs.declared.heap.AbstractHeapType.TheVariants as words
-use Rattle.wat_mnemonics.specs.declared.op.Op.{Op}
-use Rattle.wat_mnemonics.specs.declared.op.Op.TheVariants as ops
-use Rattle.wat_instr.specs.Operand.{Operand}
-use Rattle.wat_print.specs.Form.{Test, any}
-use Rattle.wat_print.specs.Reference.{short_word}
-use Rattle.wat_print.specs.Laws.Form.{not_true}
-use Rattle.wat_print_instr.specs.InstructionForm.{operand_form}
+use Rattle.std.proofs.Common.{◌≡◌, ℕ, ◌==◌, Bool, true, false, not, List, [], ◌∷◌, ◌++◌, codes, rules, refl, subst, append-nil, inl, inr}
+use Rattle.wat_expr.specs.Prelude.{cases_Bool, bytes_eq-Decides, not-true}
+use Rattle.wat_print_instr.specs.Prelude.{list_any, bytes_eq, Token, Keyword, begins_word, abstract_word, AbstractHeapType, Op, Operand, short_word, Test, any, operand_form}
 use Rattle.wat_print.specs.Laws.Form.{passes_of}
 use Rattle.wat_print_instr.specs.Laws.Instruction.{operand_prints, operand_ready}
+use Rattle.wat_types.specs.declared.heap.AbstractHeapType.TheVariants as words
+use Rattle.wat_mnemonics.specs.declared.op.Op.TheVariants as ops
 
 -- ---- the words that are written in operands
 
@@ -42,7 +29,7 @@ short_begins _ = refl
 
 -- ---- one list of tokens after another
 
-pub clear_both : (w : List ℕ) (c d : List Tok) → begins_word w c ≡ false
+pub clear_both : (w : List ℕ) (c d : List Token) → begins_word w c ≡ false
     → begins_word w d ≡ false → begins_word w (c ++ d) ≡ false
 clear_both w [] d e f = f
 clear_both w (Keyword k ∷ c) d e f = e
@@ -73,7 +60,7 @@ module _ (w : List ℕ) (a : NoOperandWord w) where
       → begins_word w ((operand_form h).spell o) ≡ false
   operand_clear h o f =
       let c = (operand_form h).spell o in
-      subst (λ (x : List Tok). begins_word w x ≡ false) (append-nil c)
-      (not_true (begins_word w (c ++ []))
+      subst (λ (x : List Token). begins_word w x ≡ false) (append-nil c)
+      (not-true (begins_word w (c ++ []))
       ((operand_prints h).front any clear (operand_fronts h) o [] (operand_ready h o f) refl
       (passes_of (operand_form h).empty clear [] refl)))

@@ -1,48 +1,23 @@
 -- Laws: constants of 128 bits and shuffled lanes are read again.
-use Rattle.std.specs.Prelude.{◌≡◌, ◌≤◌, ℕ, ℤ, ◌+◌, Bool, true, ◌&&◌, ◌==◌, List, [], ◌∷◌, ◌++◌}
-use Rattle.std.specs.Prelude.{codes, decimal, flat_map, length, take, drop}
-use Rattle.std.specs.Fmt.{signed_decimal}
-use Rattle.std.specs.Str.{bytes_eq}
-use Rattle.std.proofs.Common.{rules, refl, subst, sym, ap, ◌∙◌, inl, inr, lit≤, arith}
-use Rattle.std.proofs.lemmas.Bool.{and_parts, eqb-true}
-use Rattle.std.proofs.lemmas.Grind.{flat_map-append}
-use Rattle.std.proofs.lemmas.List.{length-append, take-append-drop, length-take, length-drop}
-use Rattle.wat_lexer.specs.Token.{Tok, Integer}
-use Rattle.wat_tokens.specs.Floats.{none}
-use Rattle.wat_tokens.specs.Many.{many}
-use Rattle.wat_tokens.specs.Production.{Production}
-use Rattle.wat_tokens.specs.Tests.{begins_integer}
-use Rattle.wat_tokens.specs.Test.{at_integer, at_word}
-use Rattle.wat_operands.specs.Vector.{two, twice, four, eight, sixteen, shaped, float_const}
-use Rattle.wat_operands.specs.Vector.{wide_const, v128_const, shuffle_of, shuffle}
-use Rattle.wat_operands.specs.declared.vector.V128Const.{V128Const}
-use Rattle.wat_operands.specs.declared.vector.V128Const.TheVariants.{I8x16, I16x8, I32x4, I64x2}
-use Rattle.wat_operands.specs.declared.vector.V128Const.TheVariants.{F32x4}
-use Rattle.wat_print.specs.Form.{Test, any, Form, token_form, seq_form, many_form}
-use Rattle.wat_print.specs.Limits.{OfIntegers}
-use Rattle.wat_print.specs.Parts.{each}
-use Rattle.wat_print.specs.Prints.{Prints, Unparses}
-use Rattle.wat_print.specs.WellFormed.{WellFormed, is_given, is_keyword}
-use Rattle.wat_print.specs.Laws.Form.{word_prints, seq_prints, made_prints, whole_prints}
-use Rattle.wat_print.specs.Laws.Form.{whole_where, respelled, else_prints, many_prints}
-use Rattle.wat_print.specs.Laws.Only.{OnlyPrintable}
-use Rattle.wat_print.specs.Laws.Parts.{each_both, each_front}
+use Rattle.std.proofs.Common.{◌≡◌, ◌≤◌, ℕ, ℤ, ◌+◌, Bool, true, ◌&&◌, ◌==◌, List, [], ◌∷◌, ◌++◌, codes, decimal, flat_map, length, take, drop, rules, refl, subst, sym, ap, ◌∙◌, inl, inr, lit≤, arith}
+use Rattle.std.proofs.lemmas.List.{length-take, length-drop}
+use Rattle.wat_expr.specs.Prelude.{two, four, eight, sixteen, float_const, wide_const, v128_const, shuffle, V128Const, I8x16, I16x8, I32x4, I64x2, F32x4}
+use Rattle.wat_print.specs.Laws.Prelude.{signed_decimal, bytes_eq, and_parts, eqb-true, flat_map-append, length-append, take-append-drop, Token, Integer, none, many, Production, begins_integer, at_integer, at_word, Test, any, Form, token_form, seq_form, many_form, OfIntegers, each, Prints, Unparses, WellFormed, is_given, is_keyword, word_prints, seq_prints, made_prints, whole_prints, whole_where, respelled, else_prints, many_prints, OnlyPrintable, each_both, each_front, same_number}
+use Rattle.wat_operands.specs.Vector.{twice, shaped, shuffle_of}
 use Rattle.wat_print_instr.specs.Numbers.{is_signed, signed_form, is_unsigned, printable_number_of}
-use Rattle.wat_print_instr.specs.Vectors.{number_of_form, never_form, lanes_form, vector_parts}
-use Rattle.wat_print_instr.specs.Vectors.{vector_form, shuffle_lanes, shuffle_form}
-use Rattle.wat_print_instr.specs.Laws.Numbers.{same_number, halves_8, halves_16, halves_32}
-use Rattle.wat_print_instr.specs.Laws.Numbers.{halves_64, signed_prints, unsigned_prints}
+use Rattle.wat_print_instr.specs.Vectors.{number_of_form, never_form, lanes_form, vector_parts, vector_form, shuffle_lanes, shuffle_form}
+use Rattle.wat_print_instr.specs.Laws.Numbers.{halves_8, halves_16, halves_32, halves_64, signed_prints, unsigned_prints}
 
 -- ---- a number of values
 
 -- values of one integer each
-module _ {A : Type 0} {g : Production A} (token : A → Tok) (ok : A → Bool)
+module _ {A : Type 0} {g : Production A} (token : A → Token) (ok : A → Bool)
     (p : Prints (token_form token ok OfIntegers) g) (consumes : 1 ≤ g.least)
   where
     abbrev number_form : ℕ → Form (List A)
     number_form n = number_of_form n (token_form token ok OfIntegers)
 
-    abbrev spell_all : List A → List Tok
+    abbrev spell_all : List A → List Token
     spell_all vs = flat_map (λ v. token v ∷ []) vs
 
     all_prints : Prints (many_form begins_integer (token_form token ok OfIntegers))
@@ -53,7 +28,7 @@ module _ {A : Type 0} {g : Production A} (token : A → Tok) (ok : A → Bool)
         → WellFormed (spell_all vs)
     number_nests n vs h = all_prints.nests vs (and_parts (length vs == n) (each ok vs) h).1
 
-    number_front : (n : ℕ) (rest test : Test) → OfIntegers any test → (vs : List A) (r : List Tok)
+    number_front : (n : ℕ) (rest test : Test) → OfIntegers any test → (vs : List A) (r : List Token)
         → printable_number_of n ok vs ≡ true → rest r ≡ true → test r ≡ true
         → test (spell_all vs ++ r) ≡ true
     number_front n rest test f vs r h i e =
@@ -64,7 +39,7 @@ module _ {A : Type 0} {g : Production A} (token : A → Tok) (ok : A → Bool)
     unfolding two
     pairs = made_prints (seq_prints p p (search rules)) (λ v. v.0 ∷ (v.1 ∷ []))
 
-    two_here : (vs : List A) (r : List Tok) → printable_number_of 2 ok vs ≡ true
+    two_here : (vs : List A) (r : List Token) → printable_number_of 2 ok vs ≡ true
         → (two g).spells vs (spell_all vs) r
     two_here [] r h = absurd cc
     two_here (v ∷ []) r h = absurd cc
@@ -75,7 +50,7 @@ module _ {A : Type 0} {g : Production A} (token : A → Tok) (ok : A → Bool)
         let a = and_parts (ok v) (ok w && true) h in
         pairs.here (v, w) r (rw (a.0, (and_parts (ok w) true a.1).0) refl) refl
 
-    two_only : (vs : List A) (c r : List Tok) → each is_given c ≡ true → (two g).spells vs c r
+    two_only : (vs : List A) (c r : List Token) → each is_given c ≡ true → (two g).spells vs c r
         → printable_number_of 2 ok vs ≡ true
     two_only vs c r a s =
         let x = pairs.only vs c r a s in
@@ -143,7 +118,7 @@ module _ {A : Type 0} {g : Production A} (token : A → Tok) (ok : A → Bool)
 -- ---- floating-point numbers, which no tokens spell
 
 pub never_prints : {A B : Type 0} (view : A → B) (g : Production B)
-    → ((v : B) (c r : List Tok) → g.spells v c r → ⊥)
+    → ((v : B) (c r : List Token) → g.spells v c r → ⊥)
     → Unparses never_form view g
 never_prints view g unread = record {
   nests = λ v h. absurd cc;
@@ -155,7 +130,7 @@ never_prints view g unread = record {
 pub none_prints : {A : Type 0} → Prints never_form (none {A = A})
 none_prints {A = A} = never_prints (λ (v : A). v) none (λ v c r s. s)
 
-no_floats : (v : V128Const) (c r : List Tok) → float_const.spells v c r → ⊥
+no_floats : (v : V128Const) (c r : List Token) → float_const.spells v c r → ⊥
 unfolding float_const four two
 no_floats v c r (inl s) = s.1.1.4.1.3.1.3
 no_floats v c r (inr s) = s.1.1.4.1.3

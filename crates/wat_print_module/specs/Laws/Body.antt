@@ -1,28 +1,18 @@
 -- Laws: the first tokens of expressions, and the tests that stand before the body of a function.
-use Rattle.std.specs.Prelude.{◌≡◌, true, not, List, ◌∷◌, codes}
-use Rattle.std.proofs.Common.{refl}
-use Rattle.std.proofs.lemmas.Bool.{not-false, not_from_true, and_parts}
-use Rattle.wat_lexer.specs.Token.{Tok, LParen, Keyword}
-use Rattle.wat_types.specs.Group.{begins_func}
-use Rattle.wat_mnemonics.specs.Ops.{op_word}
-use Rattle.wat_mnemonics.specs.declared.op.Op.{Op}
-use Rattle.wat_tokens.specs.Laws.Test.{end_denied}
-use Rattle.wat_types.specs.Group.{at_func}
-use Rattle.wat_expr.specs.Items.{hint_name}
+use Rattle.std.specs.Prelude.{◌≡◌, true, not, List, ◌∷◌, codes, refl}
+use Rattle.std.proofs.lemmas.Bool.{not-false, not_from_true}
+use Rattle.wat_print_instr.specs.Laws.Prelude.{and_parts, Token, LParen, Keyword, op_word, Op, end_denied, hint_name, Test, any, use_form, no_mnemonic, not-true}
+use Rattle.wat_print_instr.specs.Laws.Expression.{NoMnemonic, expression_first, expression_second, expression_no_type}
+use Rattle.wat_types.specs.Group.{begins_func, at_func}
 use Rattle.wat_fields.specs.Local.{local_follows}
-use Rattle.wat_print.specs.Form.{Test, any}
-use Rattle.wat_print.specs.Use.{use_form}
-use Rattle.wat_print.specs.Laws.Form.{not_true}
-use Rattle.wat_print_instr.specs.Laws.Expression.{NoMnemonic, expression_first, expression_second}
-use Rattle.wat_print_instr.specs.Laws.Expression.{expression_no_type, no_mnemonic}
 use Rattle.wat_print_module.specs.Expression.{ends_expression, expression_form}
 use Rattle.wat_print_module.specs.Local.{locals_form}
 use Rattle.wat_print_module.specs.Laws.Expression.{end_of}
 
 -- a test passes on expressions if it passes on each mnemonic and on each hint
 pub expression_front : (test : Test)
-    → ((o : Op) (y : List Tok) → test (Keyword (op_word o) ∷ y) ≡ true)
-    → ((y : List Tok) → test (LParen ∷ hint_name ∷ y) ≡ true) → expression_form.Fronts any test
+    → ((o : Op) (y : List Token) → test (Keyword (op_word o) ∷ y) ≡ true)
+    → ((y : List Token) → test (LParen ∷ hint_name ∷ y) ≡ true) → expression_form.Fronts any test
 expression_front test f g e r h i k =
     not-false (test _)
     (expression_first (λ t. not (test t)) (λ o y. (not_from_true _ (f o y)))
@@ -35,7 +25,7 @@ no_local = no_mnemonic (codes "local") refl
 pub behind_locals : expression_form.Fronts ends_expression locals_form.follows
 behind_locals e r f k h =
     rw (expression_second (codes "local") refl no_local e r f (end_of r k).0
-    (not_true (local_follows r) (and_parts (not (local_follows r)) _ h).0)) refl
+    (not-true (local_follows r) (and_parts (not (local_follows r)) _ h).0)) refl
 
 -- no expression continues a type use
 pub behind_use : expression_form.Fronts ends_expression use_form.follows

@@ -1,20 +1,10 @@
 -- Laws: custom sections are read again.
-use Rattle.std.specs.Prelude.{codes}
-use Rattle.std.proofs.Common.{refl, rules, arith, lit≤}
-use Rattle.wat_tokens.specs.Groups.{paren}
-use Rattle.wat_tokens.specs.Many.{many}
-use Rattle.wat_tokens.specs.Strings.{string}
-use Rattle.wat_tokens.specs.Test.{at_more}
-use Rattle.wat_links.specs.Custom.{raw, produced, linked, custom, at_annotated}
-use Rattle.wat_links.specs.Raw.{raw_of, raw_data, raw_custom}
-use Rattle.wat_print.specs.Form.{paren_form}
-use Rattle.wat_print.specs.Prints.{Prints, Inside}
-use Rattle.wat_print.specs.Laws.Form.{seq_prints, made_prints, whole_prints, many_prints}
-use Rattle.wat_print.specs.Laws.Form.{grouped_prints, else_inside}
-use Rattle.wat_print.specs.Laws.Strings.{string_prints, text_prints}
-use Rattle.wat_print_module.specs.Custom.{pieces_form, raw_parts, raw_form, custom_parts}
-use Rattle.wat_print_module.specs.Custom.{custom_form}
-use Rattle.wat_print.specs.Laws.Annotation.{annotated}
+use Rattle.std.proofs.Common.{codes, refl, rules, arith, lit≤}
+use Rattle.wat_core.specs.Prelude.{string, raw, produced, linked, custom, raw_data, raw_custom}
+use Rattle.wat_print_module.specs.Prelude.{paren, many, at_more, paren_form, Prints, Inside, seq_prints, made_prints, whole_prints, many_prints, grouped_prints, else_inside, string_prints, text_prints, annotated}
+use Rattle.wat_links.specs.Custom.{at_annotated}
+use Rattle.wat_links.specs.Raw.{raw_of}
+use Rattle.wat_print_module.specs.Custom.{pieces_form, raw_parts, raw_form, custom_parts, custom_form}
 use Rattle.wat_print_module.specs.Laws.CustomPlace.{place_group_prints}
 use Rattle.wat_print_module.specs.Laws.Dylink.{dylink_inside}
 use Rattle.wat_print_module.specs.Laws.Producers.{producers_inside}

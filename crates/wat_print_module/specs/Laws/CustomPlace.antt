@@ -1,21 +1,14 @@
 -- Laws: the places of custom sections are read again.
-use Rattle.std.specs.Prelude.{true, codes, unwrap_or}
-use Rattle.std.proofs.Common.{rules, refl, arith}
-use Rattle.wat_tokens.specs.Test.{at_lparen, at_word}
-use Rattle.wat_links.specs.CustomPlace.{anchor_words, section, before, after, custom_place}
-use Rattle.wat_links.specs.Raw.{raw_place}
-use Rattle.wat_links.specs.declared.custom_place.CustomPlace.TheVariants.{BeforeFirst, Before}
-use Rattle.wat_links.specs.declared.custom_place.CustomPlace.TheVariants.{After, AfterLast}
-use Rattle.wat_print.specs.Prints.{Prints}
-use Rattle.wat_print.specs.Laws.Form.{word_prints, made_prints, whole_where, else_prints}
-use Rattle.wat_print.specs.Laws.Form.{option_prints, paren_prints, after_prints}
-use Rattle.wat_print_module.specs.CustomPlace.{section_word, section_form, place_parts, place_form}
-use Rattle.wat_print_module.specs.CustomPlace.{unless_last, place_group_form}
-use Rattle.wat_print.specs.Laws.Reference.{named_prints}
+use Rattle.std.proofs.Common.{true, codes, unwrap_or, rules, refl, arith}
+use Rattle.wat_core.specs.Prelude.{section, custom_place, raw_place, BeforeFirst, Before, After, AfterLast, section_word}
+use Rattle.wat_print_instr.specs.Laws.Prelude.{at_lparen, at_word, Prints, word_prints, made_prints, whole_where, else_prints, option_prints, paren_prints, after_prints, named_prints}
+use Rattle.wat_links.specs.CustomPlace.{anchor_words, before, after}
+use Rattle.wat_print_module.specs.CustomPlace.{section_form, place_parts, place_form, unless_last, place_group_form}
+use Rattle.wat_links.specs.Laws.Named.{section_is_named}
 
 pub section_prints : Prints section_form section
 unfolding section
-section_prints = named_prints anchor_words section_word (λ a. grind arith) (λ a. grind arith)
+section_prints = named_prints anchor_words section_word (λ a. grind arith) section_is_named
 
 pub place_prints : Prints place_form custom_place
 unfolding custom_place before after

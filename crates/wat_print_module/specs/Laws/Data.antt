@@ -1,33 +1,14 @@
 -- Laws: data segments are read again.
-use Rattle.std.specs.Prelude.{true, codes, unwrap_or}
-use Rattle.std.proofs.Common.{rules, arith, refl, inr, lit≤}
-use Rattle.wat_tokens.specs.Groups.{paren}
-use Rattle.wat_tokens.specs.Index.{number}
-use Rattle.wat_tokens.specs.Test.{at_integer, at_word, opposite_test}
-use Rattle.wat_fields.specs.Data.{passive, active, data_of}
-use Rattle.wat_fields.specs.Data.{data_memory, data_active, data_kind, data_segment, at_memory}
-use Rattle.wat_fields.specs.Data.{at_passive}
-use Rattle.wat_fields.specs.Offset.{head_behind, head_last, offset_inside}
-use Rattle.wat_print.specs.Index.{printable_index}
-use Rattle.wat_print.specs.Prints.{Prints}
-use Rattle.wat_print.specs.Laws.Form.{seq_prints, made_prints, whole_prints, whole_where}
-use Rattle.wat_print.specs.Laws.Form.{else_prints, unwritten_prints, paren_prints, after_prints}
-use Rattle.wat_print.specs.Laws.Form.{group_prints, option_seen}
-use Rattle.wat_print.specs.Laws.Label.{label_prints}
-use Rattle.wat_print.specs.Laws.Only.{OnlyPrintable, only_seq, only_made, only_weaker}
-use Rattle.wat_print.specs.Laws.Reference.{index_prints}
-use Rattle.wat_print_instr.specs.ExpressionForm.{printable_expression}
-use Rattle.wat_print_instr.specs.Laws.Numbers.{unsigned_prints}
-use Rattle.wat_print_instr.specs.Laws.ExpressionOnly.{expression_only}
-use Rattle.wat_print_instr.specs.Laws.Form.{default_prints}
-use Rattle.wat_print_instr.specs.Laws.Instruction.{instruction_only}
-use Rattle.wat_print_instr.specs.Places.{is_index_0}
-use Rattle.wat_print_module.specs.Data.{offset_form, data_memory_form, data_kind_parts}
-use Rattle.wat_print_module.specs.Data.{data_kind_form, data_parts, data_form}
-use Rattle.wat_print_module.specs.Laws.DataVal.{data_vals_prints}
-use Rattle.wat_print_module.specs.Laws.Expression.{expression_prints}
+use Rattle.std.proofs.Common.{true, codes, unwrap_or, rules, arith, refl, inr, lit≤}
+use Rattle.wat_print_instr.specs.Laws.Prelude.{default_prints, instruction_only, is_index_0}
+use Rattle.wat_print_module.specs.Prelude.{paren, number, at_integer, at_word, head_behind, printable_index, Prints, seq_prints, made_prints, whole_prints, whole_where, else_prints, paren_prints, after_prints, group_prints, option_seen, label_prints, OnlyPrintable, only_made, only_weaker, index_prints, printable_expression, unsigned_prints, expression_only, offset_form, data_vals_prints, expression_prints, first_prints}
+use Rattle.wat_tokens.specs.Test.{opposite_test}
+use Rattle.wat_fields.specs.Offset.{head_last, offset_inside}
+use Rattle.wat_print.specs.Laws.Form.{unwritten_prints}
+use Rattle.wat_print.specs.Laws.Only.{only_seq}
+use Rattle.wat_print_module.specs.Data.{data_memory_form, data_kind_parts, data_kind_form, data_parts, data_form}
+use Rattle.wat_fields.specs.Data.{passive, active, data_of, data_memory, data_active, data_kind, data_segment, at_memory, at_passive}
 use Rattle.wat_print_module.specs.Laws.Folded.{behind_printable}
-use Rattle.wat_print_module.specs.Laws.Forms.{first_prints}
 
 -- ---- memories and offsets
 

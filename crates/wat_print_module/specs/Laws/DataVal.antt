@@ -1,44 +1,19 @@
 -- Laws: the values of data segments are read again.
-use Rattle.std.specs.Prelude.{◌≡◌, ℕ, ℤ, zero, suc, pos, negsuc, ◌-◌, ◌-ℤ◌, ◌<◌, ◌≤◌, ◌%◌, ◌/◌, ◌^◌}
-use Rattle.std.specs.Prelude.{true, nat_lt, nat_le, List, [], ◌∷◌, map, flat_map, codes, Some}
-use Rattle.std.specs.Prelude.{decimal}
-use Rattle.std.specs.Int.{Width, w8, w16, w32, w64, cast_unsigned, to_le_bytes, bytes_low_first}
-use Rattle.std.specs.Int.{byte_at}
-use Rattle.std.proofs.Common.{refl, rules, ap, subst, sym, ◌∙◌, arith, lit≤}
-use Rattle.std.proofs.lemmas.Bool.{cond_both, ltb-true}
-use Rattle.std.proofs.lemmas.Bool.Decides.{nat_tests}
-use Rattle.std.proofs.lemmas.Fmt.{decimal_is_IsNumeral}
-use Rattle.std.proofs.lemmas.Int.{ints}
-use Rattle.wat_lexer.specs.Number.{signed_value, twos_complement}
-use Rattle.wat_lexer.specs.Token.{Integer}
-use Rattle.wat_tokens.specs.Integers.{signed}
-use Rattle.wat_tokens.specs.Joined.{all_of, joined}
-use Rattle.wat_tokens.specs.Production.{Production}
-use Rattle.wat_tokens.specs.Test.{at_lparen, at_more, at_word}
-use Rattle.wat_operands.specs.Vector.{bytes_of, lane_width, lane_numbers, v128_const}
-use Rattle.wat_fields.specs.DataVal.{written, numbers, data_val}
-use Rattle.wat_fields.specs.DataVals.{data_vals}
+use Rattle.std.proofs.Common.{◌%◌, ◌/◌, ◌≡◌, ℕ, ℤ, zero, suc, pos, negsuc, ◌-◌, ◌-ℤ◌, ◌<◌, ◌≤◌, ◌^◌, true, nat_lt, nat_le, List, [], ◌∷◌, map, flat_map, codes, Some, decimal, refl, rules, ap, subst, sym, ◌∙◌, arith, lit≤}
+use Rattle.std.specs.Int.{Width, w8, w16, w32, w64, cast_unsigned, to_le_bytes, bytes_low_first, byte_at}
+use Rattle.wat_core.specs.Prelude.{written, numbers, data_val, data_vals}
+use Rattle.wat_print_instr.specs.Laws.Prelude.{cond_both, ltb-true, nat_tests, decimal_is_IsNumeral, ints, signed_value, twos_complement, Integer, signed, all_of, joined, Production, at_lparen, at_more, at_word, v128_const, by_itself, each, Unparses, Prints, is_byte, made_prints, whole_where, whole_prints, else_prints, many_prints, paren_prints, after_prints, decimal_printable, magnitude_decimal, no_sign, OnlyPrintable, only_where, only_made, only_weaker, well_formed_one, each_both, each_all, string_prints}
+use Rattle.wat_operands.specs.Vector.{bytes_of, lane_width, lane_numbers}
+use Rattle.wat_print.specs.Laws.Form.{many_seen}
+use Rattle.wat_print.specs.Laws.Only.{only_any, only_many, only_after}
 use Rattle.wat_fields.specs.Laws.DataVal.{data_val_consumes}
 use Rattle.wat_fields.specs.Laws.Numbers.{vector_consumes}
-use Rattle.wat_fields.specs.Numbers.{integer_bytes, integer_as_bytes, float_as_bytes, all_behind}
-use Rattle.wat_fields.specs.Numbers.{other_numbers, wide_numbers, number_list}
+use Rattle.wat_fields.specs.Numbers.{integer_bytes, integer_as_bytes, float_as_bytes, all_behind, other_numbers, wide_numbers, number_list}
 use Rattle.wat_fields.specs.VectorBytes.{vector_as_bytes}
-use Rattle.wat_print.specs.Label.{by_itself}
-use Rattle.wat_print.specs.Parts.{each}
-use Rattle.wat_print.specs.Prints.{Unparses, Prints}
-use Rattle.wat_print.specs.WellFormed.{is_byte}
 use Rattle.wat_print.specs.Laws.Bytes.{byte_is}
-use Rattle.wat_print.specs.Laws.Form.{many_seen, made_prints, whole_where, whole_prints}
-use Rattle.wat_print.specs.Laws.Form.{else_prints, many_prints, paren_prints, after_prints}
-use Rattle.wat_print.specs.Laws.Numbers.{decimal_printable, magnitude_decimal, no_sign}
-use Rattle.wat_print.specs.Laws.Only.{OnlyPrintable, only_any, only_where, only_made, only_weaker}
-use Rattle.wat_print.specs.Laws.Only.{only_many, only_after}
-use Rattle.wat_print.specs.Laws.Parts.{well_formed_one, each_both, each_all}
 use Rattle.wat_print_instr.specs.Laws.Vectors.{none_only}
-use Rattle.wat_print_module.specs.DataVal.{byte_form, bytes_form, data_val_parts, data_val_form}
-use Rattle.wat_print_module.specs.DataVal.{data_vals_form}
+use Rattle.wat_print_module.specs.DataVal.{byte_form, bytes_form, data_val_parts, data_val_form, data_vals_form}
 use Rattle.wat_print_module.specs.Laws.Forms.{first_prints}
-use Rattle.wat_print.specs.Laws.Strings.{string_prints}
 
 -- ---- a byte, as a number of 8 bits
 

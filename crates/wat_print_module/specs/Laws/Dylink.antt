@@ -1,50 +1,20 @@
 -- Laws: the `dylink.0` section is read again.
-use Rattle.std.specs.Bool.{Decides}
-use Rattle.std.specs.Prelude.{◌≡◌, ℕ, ◌^◌, true, ◌&&◌, List, [], ◌∷◌, ◌++◌, codes, flat_map}
-use Rattle.std.specs.Prelude.{fold, Some, unwrap_or}
+use Rattle.std.proofs.Common.{fold, ◌≡◌, ℕ, ◌^◌, true, ◌&&◌, List, [], ◌∷◌, ◌++◌, codes, flat_map, Some, unwrap_or, refl, rules, arith, lit≤}
 use Rattle.std.specs.Int.Bits.{bit_or, or_zero_l}
-use Rattle.std.specs.Str.{bytes_eq}
-use Rattle.std.proofs.Common.{refl, rules, arith, lit≤}
-use Rattle.std.proofs.lemmas.Bool.{and_parts, lt-ltb, ltb-true}
-use Rattle.std.proofs.lemmas.Bool.Decides.{Decides-and, Decides-like}
-use Rattle.std.proofs.lemmas.Grind.{flat_map-append}
 use Rattle.std.proofs.lemmas.Nat.{or_lt}
-use Rattle.wat_tokens.specs.Groups.{paren}
-use Rattle.wat_tokens.specs.Integers.{unsigned}
-use Rattle.wat_tokens.specs.Test.{at_group, at_integer, at_more, second_word}
+use Rattle.wat_print_instr.specs.Laws.Prelude.{lt-ltb, unsigned, filled_prints, is_unsigned, unsigned_form, each_append}
+use Rattle.wat_print_module.specs.Prelude.{Decides, bytes_eq, and_parts, ltb-true, Decides-and, Decides-like, flat_map-append, paren, at_group, at_integer, at_more, second_word, runtime_path, target_arch, of_export, of_import, other, entries_in, paren_form, each, Prints, Inside, is_keyword, seq_prints, made_prints, whole_where, whole_prints, else_prints, many_prints, group_prints, prints_only, grouped_prints, plain_prints, entry_form, entries_form, are_cut, text_prints, unsigned_prints, annotated, first_prints}
+use Rattle.wat_links.specs.Dylink.{Dylink0SubsectionModel, mem_info, needed, export_info, import_info, no_size, sizes, mem_info_entry, names_entry, lone_entry, at_export, at_import}
+use Rattle.wat_links.specs.Entries.{Dylink0Entry, entry, IsFilled, IsApart, AreCut}
+use Rattle.wat_print_module.specs.Dylink.{one_number, flags_form, export_form, import_parts, import_form, sizes_form, names_form, lone_parts, printable_lone, is_lone, lone_form, entry_parts, is_filled, is_apart, subsections_form, dylink_form}
 use Rattle.wat_links.specs.CutForm.{entries}
 use Rattle.wat_links.specs.Cutting.{cut_subsections, dylink}
-use Rattle.wat_links.specs.Dylink.{SubsectionTy, mem_info, needed, export_info, import_info}
-use Rattle.wat_links.specs.Dylink.{runtime_path, target_arch, no_size, sizes, mem_info_entry}
-use Rattle.wat_links.specs.Dylink.{names_entry, lone_entry, at_export}
-use Rattle.wat_links.specs.Dylink.{at_import}
 use Rattle.wat_links.specs.DylinkEntries.{export_entry, import_of, import_entry}
-use Rattle.wat_links.specs.Entries.{EntryTy, of_export, of_import, other, entry, entries_in}
-use Rattle.wat_links.specs.Entries.{IsFilled, IsApart, AreCut}
 use Rattle.wat_links.specs.FlagBits.{flag_words, flag_bits}
 use Rattle.wat_links.specs.Flags.{flag_list, symbol_flags}
 use Rattle.wat_links.specs.Laws.Entries.{entry_consumes}
 use Rattle.wat_links.specs.Laws.Flags.{flag_bits_consumes}
-use Rattle.wat_print.specs.Form.{paren_form}
-use Rattle.wat_print.specs.Parts.{each}
-use Rattle.wat_print.specs.Prints.{Prints, Inside}
-use Rattle.wat_print.specs.WellFormed.{is_keyword}
-use Rattle.wat_print.specs.Laws.Form.{seq_prints, made_prints, whole_where, whole_prints}
-use Rattle.wat_print.specs.Laws.Form.{else_prints, filled_prints, many_prints, group_prints}
-use Rattle.wat_print.specs.Laws.Form.{prints_only, grouped_prints}
-use Rattle.wat_print.specs.Laws.Only.{only_word_in, only_made}
-use Rattle.wat_print_instr.specs.Laws.Form.{plain_prints}
-use Rattle.wat_print_module.specs.Dylink.{one_number, flags_form, export_form, import_parts}
-use Rattle.wat_print_module.specs.Dylink.{import_form, sizes_form, names_form, lone_parts}
-use Rattle.wat_print_module.specs.Dylink.{printable_lone, is_lone, lone_form, entry_parts}
-use Rattle.wat_print_module.specs.Dylink.{entry_form, entries_form, is_filled, is_apart, are_cut}
-use Rattle.wat_print_module.specs.Dylink.{subsections_form, dylink_form}
-use Rattle.wat_print_instr.specs.Numbers.{is_unsigned, unsigned_form}
-use Rattle.wat_print.specs.Laws.Strings.{text_prints}
-use Rattle.wat_print_instr.specs.Laws.Numbers.{unsigned_prints}
-use Rattle.wat_print.specs.Laws.Annotation.{annotated}
-use Rattle.wat_print.specs.Laws.Parts.{each_append}
-use Rattle.wat_print_module.specs.Laws.Forms.{first_prints}
+use Rattle.wat_print.specs.Laws.Only.{only_word_in}
 
 -- ---- flags
 
@@ -55,8 +25,7 @@ flag_prints : Prints (unsigned_form 32) flag_bits
 unfolding flag_bits
 flag_prints =
     first_prints at_integer number_prints (λ n r. refl)
-    (only_made (λ _. true) (λ f. f.0) (is_unsigned 32)
-    (only_word_in flag_words (λ f. is_unsigned 32 f.0) refl))
+    (only_word_in flag_words (is_unsigned 32) refl)
 
 -- the bitwise or of numbers of 32 bits has 32 bits
 joined_printable : (ns : List ℕ) (n : ℕ) → is_unsigned 32 n ≡ true
@@ -133,11 +102,11 @@ entries_prints = many_prints at_more entry_prints entry_consumes (search rules) 
 
 -- ---- the entries of two lists
 
-pub entries_spelled : (es fs : List EntryTy)
+pub entries_spelled : (es fs : List Dylink0Entry)
     → entries_form.spell (es ++ fs) ≡ entries_form.spell es ++ entries_form.spell fs
 entries_spelled es fs = flat_map-append entry_form.spell es fs
 
-pub entries_printable : (es fs : List EntryTy)
+pub entries_printable : (es fs : List Dylink0Entry)
     → entries_form.printable (es ++ fs) ≡ (entries_form.printable es && entries_form.printable fs)
 entries_printable es fs = each_append entry_form.printable es fs
 
@@ -145,14 +114,14 @@ pub ruleset more_entries = (entries_spelled, entries_printable)
 
 -- ---- how entries are cut into subsections
 
-filled_decides : (s : SubsectionTy) → Decides (is_filled s) (IsFilled s)
+filled_decides : (s : Dylink0SubsectionModel) → Decides (is_filled s) (IsFilled s)
 filled_decides (export_info []) = (λ h. absurd cc, λ h. absurd h)
 filled_decides (import_info []) = (λ h. absurd cc, λ h. absurd h)
 filled_decides (export_info (e ∷ es)) = (λ h. tt, λ h. refl)
 filled_decides (import_info (e ∷ es)) = (λ h. tt, λ h. refl)
 filled_decides _ = (λ h. tt, λ h. refl)
 
-apart_decides : (s : SubsectionTy) (ss : List SubsectionTy)
+apart_decides : (s : Dylink0SubsectionModel) (ss : List Dylink0SubsectionModel)
     → Decides (is_apart s ss) (IsApart s ss)
 apart_decides (export_info es) (export_info fs ∷ ss) = (λ h. absurd cc, λ h. absurd h)
 apart_decides (import_info es) (import_info fs ∷ ss) = (λ h. absurd cc, λ h. absurd h)
@@ -162,7 +131,7 @@ apart_decides (export_info es) (_ ∷ ss) = (λ h. tt, λ h. refl)
 apart_decides (import_info es) (_ ∷ ss) = (λ h. tt, λ h. refl)
 apart_decides _ ss = (λ h. tt, λ h. refl)
 
-cut_decides : (ss : List SubsectionTy) → Decides (are_cut ss) (AreCut ss)
+cut_decides : (ss : List Dylink0SubsectionModel) → Decides (are_cut ss) (AreCut ss)
 cut_decides [] = (λ h. tt, λ h. refl)
 cut_decides (s ∷ ss) =
     Decides-like (are_cut (s ∷ ss)) (λ h. (h.0, h.1.0, h.1.1)) (λ h. (h.0, (h.1, h.2)))

@@ -1,47 +1,21 @@
 -- Laws: element segments and their elements are read again.
-use Rattle.std.specs.Prelude.{◌≡◌, ℕ, true, List, ◌∷◌, codes, Some, is_none}
-use Rattle.std.specs.Str.{bytes_eq}
-use Rattle.std.proofs.Common.{rules, arith, refl, append_assoc, lit≤}
+use Rattle.std.proofs.Common.{◌≡◌, ℕ, true, List, ◌∷◌, codes, Some, is_none, rules, arith, refl, append_assoc, lit≤}
 use Rattle.std.proofs.Math.Bool.{and_assoc}
-use Rattle.wat_lexer.specs.Token.{Tok, Keyword}
-use Rattle.wat_tokens.specs.Index.{number}
-use Rattle.wat_tokens.specs.Parts.{made}
-use Rattle.wat_tokens.specs.Test.{at_group, at_integer, at_more, at_word, second_word}
-use Rattle.wat_types.specs.Reference.{begins_ref, at_ref, at_shorthand}
-use Rattle.wat_types.specs.declared.heap.AbstractHeapType.{AbstractHeapType}
-use Rattle.wat_types.specs.declared.heap.AbstractHeapType.TheVariants as word
-use Rattle.wat_fields.specs.Elem.{passive, declared, elem_of, elem_offset, active_of, in_table}
-use Rattle.wat_fields.specs.Elem.{table_number, in_some_table, declared_segment, passive_segment}
-use Rattle.wat_fields.specs.Elem.{active_segment, segment, elem, at_active}
+use Rattle.wat_print_module.specs.Prelude.{bytes_eq, Token, Keyword, number, made, at_group, at_integer, at_more, at_word, second_word, begins_ref, at_shorthand, AbstractHeapType, indices, exprs, item_list, Unparses, Prints, is_keyword, seq_prints, made_prints, whole_prints, whole_where, respelled, only_where_prints, else_prints, many_prints, after_prints, group_prints, option_seen, label_prints, index_prints, ref_prints, no_short, unsigned_prints, offset_form, elem_item_form, elem_items_form, expression_form, expression_prints, first_prints, short_word}
+use Rattle.wat_types.specs.Reference.{at_ref}
+use Rattle.wat_fields.specs.Payload.{index_list, typed_elems, payload, payload_or_indices}
+use Rattle.wat_print_module.specs.Elem.{elem_indices_form, typed_elems_form, payload_parts, payload_form, indices_only_form, any_payload_parts, any_payload_form, mode_form, segment_parts, segment_form, elem_parts, elem_form}
+use Rattle.wat_fields.specs.Elem.{passive, declared, elem_of, elem_offset, active_of, in_table, table_number, in_some_table, declared_segment, passive_segment, active_segment, segment, elem, at_active}
 use Rattle.wat_fields.specs.Item.{written_or_folded, item}
 use Rattle.wat_fields.specs.Laws.Payload.{item_consumes}
-use Rattle.wat_fields.specs.Payload.{indices, exprs, item_list, index_list, typed_elems, payload}
-use Rattle.wat_fields.specs.Payload.{payload_or_indices}
 use Rattle.wat_print.specs.Form.{group_form}
-use Rattle.wat_print.specs.Prints.{Unparses, Prints}
-use Rattle.wat_print.specs.Reference.{short_word}
-use Rattle.wat_print.specs.WellFormed.{is_keyword}
-use Rattle.wat_print.specs.Laws.Form.{seq_prints, made_prints, whole_prints, whole_where, respelled}
-use Rattle.wat_print.specs.Laws.Form.{only_where_prints, else_prints, many_prints, after_prints}
-use Rattle.wat_print.specs.Laws.Form.{group_prints, option_seen}
-use Rattle.wat_print.specs.Laws.Label.{label_prints}
-use Rattle.wat_print.specs.Laws.Reference.{index_prints, ref_prints, no_short}
-use Rattle.wat_print_instr.specs.Laws.Numbers.{unsigned_prints}
 use Rattle.wat_print_instr.specs.Laws.OperandFront.{short_apart}
-use Rattle.wat_print_module.specs.Data.{offset_form}
-use Rattle.wat_print_module.specs.Elem.{elem_item_form, elem_items_form, elem_indices_form}
-use Rattle.wat_print_module.specs.Elem.{typed_elems_form, payload_parts, payload_form}
-use Rattle.wat_print_module.specs.Elem.{bare_indices_form, any_payload_parts, any_payload_form}
-use Rattle.wat_print_module.specs.Elem.{mode_form, segment_parts, segment_form, elem_parts}
-use Rattle.wat_print_module.specs.Elem.{elem_form}
-use Rattle.wat_print_module.specs.Expression.{expression_form}
-use Rattle.wat_print_module.specs.Laws.Expression.{expression_prints}
 use Rattle.wat_print_module.specs.Laws.Folded.{folded_only}
-use Rattle.wat_print_module.specs.Laws.Forms.{first_prints}
+use Rattle.wat_types.specs.declared.heap.AbstractHeapType.TheVariants as word
 
 -- ---- the words of shorthands of reference types
 
-no_type : (t : AbstractHeapType) (y : List Tok)
+no_type : (t : AbstractHeapType) (y : List Token)
     → offset_form.follows (Keyword (short_word t) ∷ y) ≡ true
 no_type t y =
     rw (
@@ -50,7 +24,7 @@ no_type t y =
       short_apart (codes "result") refl t,
     ) refl
 
-pub short_begins : (t : AbstractHeapType) (y : List Tok)
+pub short_begins : (t : AbstractHeapType) (y : List Token)
     → begins_ref (Keyword (short_word t) ∷ y) ≡ true
 unfolding at_shorthand
 short_begins word.Func y = refl
@@ -91,8 +65,8 @@ payload_prints =
     (search rules) (search (rules, no_short (codes "func") refl))) payload_parts (λ p h. grind arith) (λ p h. h)
     (λ v h. grind arith)
 
-bare_indices_prints : Unparses bare_indices_form indices (made indices index_list)
-bare_indices_prints =
+indices_only_prints : Unparses indices_only_form indices (made indices index_list)
+indices_only_prints =
     record {
       nests = λ is h. absurd cc;
       front = λ rest test f is r h i e. absurd cc;
@@ -105,7 +79,7 @@ unfolding payload_or_indices at_shorthand
 any_payload_prints =
     whole_prints (else_prints (at_word (codes "func"))
     (made_prints (after_prints elem_indices_prints (codes "func") refl refl) indices)
-    (else_prints at_ref typed_prints bare_indices_prints (search (rules, short_begins)) tt)
+    (else_prints at_ref typed_prints indices_only_prints (search (rules, short_begins)) tt)
     (search rules) (search (rules, no_short (codes "func") refl))) any_payload_parts (λ p h. grind arith)
     (λ p h. grind arith) (λ v h. grind arith)
 

@@ -1,21 +1,14 @@
 -- Laws: exports and their types are read again.
-use Rattle.std.specs.Prelude.{codes}
-use Rattle.std.proofs.Common.{refl, rules, arith}
-use Rattle.wat_links.specs.Export.{kind_words, export_kind, export_of, export_, export_type}
-use Rattle.wat_print.specs.Prints.{Prints}
-use Rattle.wat_print.specs.Laws.Form.{seq_prints, made_prints, whole_prints, paren_prints}
-use Rattle.wat_print.specs.Laws.Form.{after_prints}
-use Rattle.wat_print.specs.Laws.Reference.{index_prints}
-use Rattle.wat_print_module.specs.Export.{export_kind_word, export_kind_form, export_parts}
-use Rattle.wat_print_module.specs.Export.{export_form, export_type_form}
-use Rattle.wat_print.specs.Laws.Reference.{named_prints}
-use Rattle.wat_print_module.specs.Laws.Item.{sig_prints}
-use Rattle.wat_print.specs.Laws.Strings.{text_prints}
+use Rattle.std.proofs.Common.{codes, refl, rules, arith}
+use Rattle.wat_print_module.specs.Prelude.{Prints, seq_prints, made_prints, whole_prints, paren_prints, after_prints, index_prints, named_prints, sig_prints, text_prints}
+use Rattle.wat_links.specs.Export.{kind_words, export_kind, export_of, export_, export_type, export_kind_word}
+use Rattle.wat_print_module.specs.Export.{export_kind_form, export_parts, export_form, export_type_form}
+use Rattle.wat_links.specs.Laws.Named.{kind_is_named}
 
 pub export_kind_prints : Prints export_kind_form export_kind
 unfolding export_kind
 export_kind_prints =
-    named_prints kind_words export_kind_word (λ k. grind arith) (λ k. grind arith)
+    named_prints kind_words export_kind_word (λ k. grind arith) kind_is_named
 
 pub export_prints : Prints export_form export_
 unfolding export_

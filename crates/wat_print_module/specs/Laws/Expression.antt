@@ -1,19 +1,9 @@
 -- Laws: expressions are read again at the end of their group.
 use Rattle.std.specs.Prelude.{◌≡◌, true, not, ◌&&◌, List, codes}
-use Rattle.std.proofs.lemmas.Bool.{and_parts}
-use Rattle.wat_lexer.specs.Token.{Tok}
-use Rattle.wat_tokens.specs.Tests.{begins_word, ends, second}
-use Rattle.wat_expr.specs.ExpressionProduction.{expression}
-use Rattle.wat_print.specs.Prints.{Prints}
-use Rattle.wat_print.specs.Laws.Form.{not_true}
-use Rattle.wat_print_instr.specs.ExpressionForm.{spell_expression}
-use Rattle.wat_print_instr.specs.Laws.Expression.{EndsExpression, expression_closed}
-use Rattle.wat_print_instr.specs.Laws.Expression.{expression_well_formed}
-use Rattle.wat_print_instr.specs.Laws.ExpressionOnly.{expression_only}
-use Rattle.wat_print_instr.specs.Laws.Form.{plain_prints}
+use Rattle.wat_print_instr.specs.Laws.Prelude.{and_parts, Token, begins_word, ends, second, expression, Prints, spell_expression, EndsExpression, expression_closed, expression_well_formed, expression_only, plain_prints, not-true}
 use Rattle.wat_print_module.specs.Expression.{ends_expression, expression_form}
 
-pub end_of : (r : List Tok) → ends_expression r ≡ true → EndsExpression r
+pub end_of : (r : List Token) → ends_expression r ≡ true → EndsExpression r
 end_of r e =
     let t = second (begins_word (codes "type")) r in
     let p = second (begins_word (codes "param")) r in
@@ -21,7 +11,7 @@ end_of r e =
     let a = and_parts (ends r) (not t && (not p && not q)) e in
     let b = and_parts (not t) (not p && not q) a.1 in
     let c = and_parts (not p) (not q) b.1 in
-    (a.0, (not_true t b.0, not_true p c.0, not_true q c.1))
+    (a.0, (not-true t b.0, not-true p c.0, not-true q c.1))
 
 pub expression_prints : Prints expression_form expression
 expression_prints =

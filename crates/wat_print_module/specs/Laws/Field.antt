@@ -1,21 +1,9 @@
 -- Laws: the fields of a module are read again.
-use Rattle.std.specs.Prelude.{codes}
-use Rattle.std.proofs.Common.{refl, rules, arith}
-use Rattle.wat_tokens.specs.Test.{at_word}
-use Rattle.wat_core.specs.Field.{ModuleFieldTy, a_type, a_rec, an_import, a_func, a_table, a_memory}
-use Rattle.wat_core.specs.Field.{a_global, an_export, a_start, an_elem, a_data, a_tag, a_custom}
-use Rattle.wat_core.specs.Field.{start, start_or_later_field, global_or_later_field}
-use Rattle.wat_core.specs.Field.{func_or_later_field, module_field}
-use Rattle.wat_core.specs.FieldGroup.{field_group}
-use Rattle.wat_print.specs.Form.{pick}
-use Rattle.wat_print.specs.Prints.{Prints, Inside}
+use Rattle.std.proofs.Common.{codes, refl, rules, arith}
+use Rattle.wat_core.specs.Prelude.{at_word, ModuleFieldModel, a_type, a_rec, an_import, a_func, a_table, a_memory, a_global, an_export, a_start, an_elem, a_data, a_tag, a_custom, start, start_or_later_field, global_or_later_field, func_or_later_field, module_field, field_group}
+use Rattle.wat_print_module.specs.Prelude.{pick, Prints, Inside, made_prints, after_prints, else_inside, grouped_prints, whole_prints, index_prints}
 use Rattle.wat_print.specs.Laws.Define.{type_prints, rec_prints}
-use Rattle.wat_print.specs.Laws.Form.{made_prints, after_prints, else_inside, grouped_prints}
-use Rattle.wat_print.specs.Laws.Form.{whole_prints}
-use Rattle.wat_print.specs.Laws.Reference.{index_prints}
-use Rattle.wat_print_module.specs.Field.{LateTree, MiddleTree, EarlyTree, FieldTree, start_form}
-use Rattle.wat_print_module.specs.Field.{late_form, middle_form, early_form, kinds_form}
-use Rattle.wat_print_module.specs.Field.{field_parts, field_form}
+use Rattle.wat_print_module.specs.Field.{LateTree, MiddleTree, EarlyTree, FieldTree, start_form, late_form, middle_form, early_form, kinds_form, field_parts, field_form}
 use Rattle.wat_print.specs.Laws.Annotation.{inside}
 use Rattle.wat_print_module.specs.Laws.Custom.{custom_inside}
 use Rattle.wat_print_module.specs.Laws.Data.{data_prints}
@@ -32,7 +20,7 @@ start_prints : Prints start_form start
 unfolding start
 start_prints = after_prints index_prints (codes "start") refl refl
 
-abbrev late_view : LateTree → ModuleFieldTy
+abbrev late_view : LateTree → ModuleFieldModel
 late_view = pick a_start (pick an_elem (pick a_data a_custom))
 
 late_inside : Inside late_form late_view start_or_later_field
@@ -44,7 +32,7 @@ late_inside =
     (made_prints custom_inside a_custom) (search rules) (search rules)) (search rules)
     (search rules)) (search rules) (search rules)
 
-abbrev middle_view : MiddleTree → ModuleFieldTy
+abbrev middle_view : MiddleTree → ModuleFieldModel
 middle_view = pick a_global (pick an_export (pick a_tag late_view))
 
 middle_inside : Inside middle_form middle_view global_or_later_field
@@ -57,7 +45,7 @@ middle_inside =
     late_inside (search rules) (search rules)) (search rules) (search rules))
     (search rules) (search rules)
 
-abbrev early_view : EarlyTree → ModuleFieldTy
+abbrev early_view : EarlyTree → ModuleFieldModel
 early_view = pick a_func (pick a_table (pick a_memory middle_view))
 
 early_inside : Inside early_form early_view func_or_later_field
@@ -70,7 +58,7 @@ early_inside =
     (inside (made_prints memory_field_prints a_memory) refl) middle_inside (search rules)
     (search rules)) (search rules) (search rules)) (search rules) (search rules)
 
-abbrev kinds_view : FieldTree → ModuleFieldTy
+abbrev kinds_view : FieldTree → ModuleFieldModel
 kinds_view = pick a_type (pick a_rec (pick an_import early_view))
 
 kinds_inside : Inside kinds_form kinds_view module_field

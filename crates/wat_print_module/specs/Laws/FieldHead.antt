@@ -1,22 +1,11 @@
 -- Laws: inline exports, inline imports and the heads of fields are read again.
-use Rattle.std.specs.Prelude.{codes, ◌≡◌, ℕ, true, List}
-use Rattle.std.specs.Str.{bytes_eq}
-use Rattle.std.proofs.Common.{refl, rules}
-use Rattle.wat_tokens.specs.Groups.{group}
-use Rattle.wat_tokens.specs.Strings.{text}
-use Rattle.wat_links.specs.Export.{inline_export, at_inline_export}
-use Rattle.wat_links.specs.FieldHead.{field_head, head}
-use Rattle.wat_links.specs.Import.{inline_import}
+use Rattle.std.proofs.Common.{codes, ◌≡◌, ℕ, true, List, refl, rules}
+use Rattle.wat_core.specs.Prelude.{inline_export, field_head, head, inline_import}
+use Rattle.wat_print_instr.specs.Laws.Prelude.{bytes_eq, group, text, Prints, is_keyword, seq_prints, made_prints, whole_prints, many_prints, group_prints, label_prints, text_prints}
+use Rattle.wat_links.specs.Export.{at_inline_export}
 use Rattle.wat_links.specs.InlineName.{inline_name}
 use Rattle.wat_links.specs.Laws.Export.{inline_name_consumes}
-use Rattle.wat_print.specs.Prints.{Prints}
-use Rattle.wat_print.specs.WellFormed.{is_keyword}
-use Rattle.wat_print.specs.Laws.Form.{seq_prints, made_prints, whole_prints, many_prints}
-use Rattle.wat_print.specs.Laws.Form.{group_prints}
-use Rattle.wat_print.specs.Laws.Label.{label_prints}
-use Rattle.wat_print_module.specs.FieldHead.{inline_export_form, inline_import_form, head_parts}
-use Rattle.wat_print_module.specs.FieldHead.{head_form, name_group_form}
-use Rattle.wat_print.specs.Laws.Strings.{text_prints}
+use Rattle.wat_print_module.specs.FieldHead.{inline_export_form, inline_import_form, head_parts, head_form, name_group_form}
 
 pub name_group_prints : (w : List ℕ) → is_keyword w ≡ true → bytes_eq w w ≡ true
     → Prints (name_group_form w) (group w text)

@@ -1,18 +1,11 @@
 -- Laws: productions with an alternative that is read, but never written.
-use Rattle.std.specs.Prelude.{◌≡◌, true, List, ◌++◌}
-use Rattle.std.proofs.Common.{refl, inl}
-use Rattle.wat_lexer.specs.Token.{Tok}
-use Rattle.wat_tokens.specs.Parts.{where_else}
-use Rattle.wat_tokens.specs.Production.{Production}
-use Rattle.wat_tokens.specs.Test.{Test, run}
-use Rattle.wat_print.specs.Form.{Form}
-use Rattle.wat_print.specs.Prints.{Prints}
-use Rattle.wat_print.specs.Laws.Form.{prints_only}
-use Rattle.wat_print.specs.Laws.Only.{OnlyPrintable, only_where}
+use Rattle.std.proofs.Common.{◌≡◌, true, List, ◌++◌, refl, inl}
+use Rattle.wat_print_instr.specs.Laws.Prelude.{Token, where_else, Production, run, Form, Prints, prints_only, OnlyPrintable, only_where}
+use Rattle.wat_tokens.specs.Test.{Test}
 
 -- the form writes the first alternative; the second alternative is only read
 pub first_prints : {A : Type 0} {form : Form A} {g h : Production A} (test : Test) → Prints form g
-    → ((v : A) (r : List Tok) → run test (form.spell v ++ r) ≡ true)
+    → ((v : A) (r : List Token) → run test (form.spell v ++ r) ≡ true)
     → OnlyPrintable h form.printable → Prints form (where_else test g h)
 first_prints test p told only = record {
   nests = p.nests;

@@ -1,37 +1,19 @@
 -- Laws: functions are read again.
-use Rattle.std.specs.Prelude.{◌≡◌, true, not, List, [], ◌∷◌, ◌++◌, codes}
-use Rattle.std.proofs.Common.{refl, rules, arith}
-use Rattle.wat_lexer.specs.Token.{Tok}
-use Rattle.wat_tokens.specs.Parts.{seq}
-use Rattle.wat_links.specs.Import.{begins_inline_import, at_inline_import}
+use Rattle.std.proofs.Common.{◌≡◌, true, not, List, [], ◌∷◌, ◌++◌, codes, refl, rules, arith}
+use Rattle.wat_print_module.specs.Prelude.{Token, seq, begins_inline_import, at_inline_import, ExpressionModel, expression, LocalModel, locals, Test, Prints, seq_prints, made_prints, whole_prints, else_prints, after_prints, use_prints, ends_expression, head_form, expression_front, expression_prints, head_prints, inline_import_prints, no_export, no_import_word}
+use Rattle.wat_print_module.specs.Laws.Body.{behind_locals, behind_use}
 use Rattle.wat_links.specs.Item.{func_use}
-use Rattle.wat_expr.specs.Expression.{Expr}
-use Rattle.wat_expr.specs.ExpressionProduction.{expression}
-use Rattle.wat_fields.specs.Func.{imported, inline, func_of, func_import, func_inline, func_defined}
-use Rattle.wat_fields.specs.Func.{func}
-use Rattle.wat_fields.specs.Local.{LocalTy}
-use Rattle.wat_fields.specs.Locals.{locals}
-use Rattle.wat_print.specs.Form.{Test}
-use Rattle.wat_print.specs.Prints.{Prints}
-use Rattle.wat_print.specs.Laws.Form.{seq_prints, made_prints, whole_prints, else_prints}
-use Rattle.wat_print.specs.Laws.Form.{after_prints}
-use Rattle.wat_print.specs.Laws.Use.{use_prints}
+use Rattle.wat_fields.specs.Func.{imported, inline, func_of, func_import, func_inline, func_defined, func}
 use Rattle.wat_print_instr.specs.Laws.Form.{next_prints}
-use Rattle.wat_print_module.specs.Expression.{ends_expression}
-use Rattle.wat_print_module.specs.FieldHead.{head_form}
-use Rattle.wat_print_module.specs.Func.{body_form, inline_func_form, defined_func_parts}
-use Rattle.wat_print_module.specs.Func.{defined_func_form, func_parts, func_form}
-use Rattle.wat_print_module.specs.Laws.Body.{expression_front, behind_locals, behind_use}
-use Rattle.wat_print_module.specs.Laws.Expression.{expression_prints}
-use Rattle.wat_print_module.specs.Laws.FieldHead.{head_prints, inline_import_prints}
-use Rattle.wat_print_module.specs.Laws.Fronts.{no_export, no_import_word}
+use Rattle.wat_print_module.specs.Func.{body_form, inline_func_form, defined_func_parts, defined_func_form, func_parts, func_form}
 use Rattle.wat_print_module.specs.Laws.Item.{exact_prints}
 use Rattle.wat_print_module.specs.Laws.Local.{locals_prints}
 
 -- ---- a type, locals and a body
 
-body_front : (rest test : Test) → body_form.Fronts rest test → (v : List LocalTy × Expr)
-    (r : List Tok) → body_form.ready v ≡ true → rest r ≡ true → test r ≡ true
+body_front : (rest test : Test) → body_form.Fronts rest test
+    → (v : List LocalModel × ExpressionModel)
+    (r : List Token) → body_form.ready v ≡ true → rest r ≡ true → test r ≡ true
     → test (body_form.spell v ++ r) ≡ true
 body_front rest test f ([], e) r h i k = f.1 e r h i k
 body_front rest test f (l ∷ ls, e) r h i k = f.0 _ refl

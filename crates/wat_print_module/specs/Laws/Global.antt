@@ -1,36 +1,20 @@
 -- Laws: globals are read again.
-use Rattle.std.specs.Prelude.{◌≡◌, false, codes}
-use Rattle.std.specs.Str.{bytes_eq}
-use Rattle.std.proofs.Common.{refl, rules, arith}
-use Rattle.wat_types.specs.Value.{ValTy}
-use Rattle.wat_types.specs.declared.heap.AbstractHeapType.{AbstractHeapType}
-use Rattle.wat_links.specs.Import.{at_inline_import}
+use Rattle.std.proofs.Common.{◌≡◌, false, codes, refl, rules, arith}
+use Rattle.wat_print_instr.specs.Prelude.{ValTypeModel, global_form}
+use Rattle.wat_print_module.specs.Prelude.{bytes_eq, AbstractHeapType, at_inline_import, any, Prints, seq_prints, made_prints, whole_prints, else_prints, after_prints, global_prints, no_mnemonic, expression_form, expression_front, expression_prints, head_prints, inline_import_prints, no_export, no_import_word, short_word}
 use Rattle.wat_fields.specs.Global.{imported, inline, global_of, global_defined, global}
-use Rattle.wat_print.specs.Form.{any}
-use Rattle.wat_print.specs.Prints.{Prints}
-use Rattle.wat_print.specs.Reference.{short_word, plain_word}
-use Rattle.wat_print.specs.Storage.{global_form}
-use Rattle.wat_print.specs.Laws.Form.{seq_prints, made_prints, whole_prints, else_prints}
-use Rattle.wat_print.specs.Laws.Form.{after_prints}
-use Rattle.wat_print.specs.Laws.Storage.{global_prints}
-use Rattle.wat_print_instr.specs.Laws.Expression.{no_mnemonic}
-use Rattle.wat_print_module.specs.Expression.{expression_form}
-use Rattle.wat_print_module.specs.Global.{defined_global_parts, defined_global_form}
-use Rattle.wat_print_module.specs.Global.{global_field_parts, global_field_form}
-use Rattle.wat_print_module.specs.Laws.Body.{expression_front}
-use Rattle.wat_print_module.specs.Laws.Expression.{expression_prints}
-use Rattle.wat_print_module.specs.Laws.FieldHead.{head_prints, inline_import_prints}
-use Rattle.wat_print_module.specs.Laws.Fronts.{no_export, no_import_word}
+use Rattle.wat_print.specs.Reference.{plain_word}
+use Rattle.wat_print_module.specs.Global.{defined_global_parts, defined_global_form, global_field_parts, global_field_form}
 
 -- ---- words that no value type begins with
 
-plain_no_export : (t : ValTy) → bytes_eq (plain_word t) (codes "export") ≡ false
+plain_no_export : (t : ValTypeModel) → bytes_eq (plain_word t) (codes "export") ≡ false
 plain_no_export t = grind arith
 
 short_no_export : (t : AbstractHeapType) → bytes_eq (short_word t) (codes "export") ≡ false
 short_no_export t = grind arith
 
-plain_no_import : (t : ValTy) → bytes_eq (plain_word t) (codes "import") ≡ false
+plain_no_import : (t : ValTypeModel) → bytes_eq (plain_word t) (codes "import") ≡ false
 plain_no_import t = grind arith
 
 short_no_import : (t : AbstractHeapType) → bytes_eq (short_word t) (codes "import") ≡ false

@@ -1,34 +1,17 @@
 -- Laws: imports are read again.
-use Rattle.std.specs.Prelude.{◌≡◌, true, List, [], ◌∷◌, ◌++◌, codes, is_none, ℕ, false}
-use Rattle.std.specs.Str.{bytes_eq}
-use Rattle.std.proofs.Common.{refl, rules, arith}
-use Rattle.std.proofs.lemmas.Bool.{and_parts}
-use Rattle.wat_lexer.specs.Token.{Tok}
-use Rattle.wat_tokens.specs.Parts.{made_where, seq}
-use Rattle.wat_tokens.specs.Strings.{text}
-use Rattle.wat_tokens.specs.Tests.{ends}
-use Rattle.wat_tokens.specs.Test.{at_lparen}
-use Rattle.wat_links.specs.Forms.{import_items, imports}
-use Rattle.wat_links.specs.Import.{single, group1, group2, imports_of, shared_sig}
-use Rattle.wat_links.specs.Import.{typed_list, named_list, import_choice, typed_items, named_items}
-use Rattle.wat_links.specs.Import.{single_item, typed, at_item, at_typed}
+use Rattle.std.proofs.Common.{◌≡◌, true, List, [], ◌∷◌, ◌++◌, codes, is_none, ℕ, false, refl, rules, arith}
+use Rattle.wat_core.specs.Prelude.{import_items, imports, ItemSigModel}
+use Rattle.wat_print_module.specs.Prelude.{bytes_eq, and_parts, Token, seq, text, ends, at_lparen, item_sig, Prints, seq_prints, made_prints, whole_prints, many_prints, paren_prints, after_prints, group_prints, prints_only, told_prints, else_prints, only_where_prints, printable_sig, sig_prints, text_prints}
+use Rattle.wat_tokens.specs.Parts.{made_where}
+use Rattle.wat_print.specs.Laws.Form.{restated_prints, where_prints}
+use Rattle.wat_links.specs.Import.{single, group1, group2, imports_of, shared_sig, typed_list, named_list, import_choice, typed_items, named_items, single_item, typed, at_item, at_typed}
 use Rattle.wat_links.specs.ImportItem.{sig_group, typed_item, named_item}
-use Rattle.wat_links.specs.Item.{item_sig, SigTy}
 use Rattle.wat_links.specs.ItemForms.{ItemsSpells}
 use Rattle.wat_links.specs.Laws.Forms.{items_to, items_from}
 use Rattle.wat_links.specs.Laws.Import.{typed_item_consumes, named_item_consumes}
-use Rattle.wat_print.specs.Prints.{Prints}
-use Rattle.wat_print.specs.Laws.Form.{seq_prints, made_prints, whole_prints, many_prints}
-use Rattle.wat_print.specs.Laws.Form.{paren_prints, after_prints, group_prints, prints_only}
-use Rattle.wat_print.specs.Laws.Form.{restated_prints, told_prints, else_prints, where_prints}
-use Rattle.wat_print.specs.Laws.Form.{only_where_prints}
-use Rattle.wat_print_module.specs.Import.{single_form, typed_items_form, shared_form, sharing_form}
-use Rattle.wat_print_module.specs.Import.{items_form, imports_parts, imports_form, items_parts}
-use Rattle.wat_print_module.specs.Item.{printable_sig}
+use Rattle.wat_print_module.specs.Import.{single_form, typed_items_form, shared_form, sharing_form, items_form, imports_parts, imports_form, items_parts}
 use Rattle.wat_print_module.specs.Laws.FieldHead.{name_group_prints}
 use Rattle.wat_print_module.specs.Laws.Fronts.{OnGroup}
-use Rattle.wat_print_module.specs.Laws.Item.{sig_prints}
-use Rattle.wat_print.specs.Laws.Strings.{text_prints}
 
 -- ---- items
 
@@ -43,7 +26,7 @@ typed_prints =
 
 shared_prints : Prints shared_form (made_where (λ s. is_none s.label.id) (λ s. s) item_sig)
 shared_prints =
-    let ok = λ (s : SigTy). is_none s.label.id in
+    let ok = λ (s : ItemSigModel). is_none s.label.id in
     let p = where_prints (only_where_prints sig_prints ok) ok (λ s. s)
     (λ s h. (and_parts (ok s) (printable_sig s) h).0) in
     record {
@@ -65,7 +48,8 @@ sharing_prints =
 no_item : (k : List ℕ) → bytes_eq k (codes "item") ≡ false → OnGroup typed k
 no_item k e y = rw e refl
 
-typed_begin : (xs : List (List ℕ × SigTy)) (r : List Tok) → typed_items_form.ready xs ≡ true
+typed_begin : (xs : List (List ℕ × ItemSigModel)) (r : List Token)
+    → typed_items_form.ready xs ≡ true
     → ends r ≡ true → typed (typed_items_form.spell xs ++ r) ≡ true
 typed_begin [] r h e = rw e refl
 typed_begin (x ∷ xs) r h e = refl

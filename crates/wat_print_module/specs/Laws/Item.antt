@@ -1,23 +1,8 @@
 -- Laws: the signatures of imported and exported items are read again.
-use Rattle.std.specs.Prelude.{◌≡◌, ℕ, true, false, List, codes}
-use Rattle.std.specs.Str.{bytes_eq}
-use Rattle.std.proofs.Common.{refl, rules, arith}
-use Rattle.wat_tokens.specs.Production.{Production}
-use Rattle.wat_tokens.specs.Test.{at_word, second_word}
-use Rattle.wat_links.specs.Item.{ItemKindTy, table, memory, global, tag, sig_of, exact_use}
-use Rattle.wat_links.specs.Item.{func_kind_of, func_kind, item_of, global_or_tag, item_sig}
-use Rattle.wat_print.specs.Form.{any, Form}
-use Rattle.wat_print.specs.Label.{label_form}
-use Rattle.wat_print.specs.Prints.{Unparses, Prints}
-use Rattle.wat_print.specs.WellFormed.{is_keyword}
-use Rattle.wat_print.specs.Laws.Form.{seq_prints, made_prints, whole_prints, whole_where, respelled}
-use Rattle.wat_print.specs.Laws.Form.{else_prints, after_prints, group_prints}
-use Rattle.wat_print.specs.Laws.Label.{label_prints}
-use Rattle.wat_print.specs.Laws.Limits.{memory_prints, table_prints}
-use Rattle.wat_print.specs.Laws.Storage.{global_prints}
-use Rattle.wat_print.specs.Laws.Use.{use_prints}
-use Rattle.wat_print_module.specs.Item.{exact_parts, exact_form, item_of_form, sig_parts, spell_sig}
-use Rattle.wat_print_module.specs.Item.{printable_sig, sig_form}
+use Rattle.std.proofs.Common.{◌≡◌, ℕ, true, false, List, codes, refl, rules, arith}
+use Rattle.wat_print_instr.specs.Laws.Prelude.{bytes_eq, Production, at_word, second_word, any, Form, label_form, Unparses, Prints, is_keyword, seq_prints, made_prints, whole_prints, whole_where, respelled, else_prints, after_prints, group_prints, label_prints, memory_prints, table_prints, global_prints, use_prints}
+use Rattle.wat_links.specs.Item.{ItemKindModel, table, memory, global, tag, sig_of, exact_use, func_kind_of, func_kind, item_of, global_or_tag, item_sig}
+use Rattle.wat_print_module.specs.Item.{exact_parts, exact_form, item_of_form, sig_parts, spell_sig, printable_sig, sig_form}
 
 pub exact_prints : Prints exact_form exact_use
 unfolding exact_use
@@ -27,7 +12,7 @@ exact_prints =
     (made_prints use_prints (λ u. (u, false))) (search rules) (search rules)) exact_parts
     (λ u h. grind arith) (λ u h. h) (λ v h. grind arith)
 
-item_prints : {A : Type 0} {form : Form A} {view : A → ItemKindTy} {k : Production ItemKindTy}
+item_prints : {A : Type 0} {form : Form A} {view : A → ItemKindModel} {k : Production ItemKindModel}
     (w : List ℕ) → is_keyword w ≡ true → bytes_eq w w ≡ true → Unparses form view k
     → form.Fronts any label_form.follows
     → Unparses (item_of_form w form) (λ v. sig_of v.0 (view v.1)) (item_of w k)

@@ -1,30 +1,18 @@
 -- Laws: locals of functions are read again.
-use Rattle.std.specs.Prelude.{◌≡◌, true, List, [], ◌∷◌, flat_map, map, codes}
-use Rattle.std.proofs.Common.{refl, rules, ap, append-nil}
-use Rattle.std.proofs.lemmas.Bool.{and_parts}
-use Rattle.wat_tokens.specs.Joined.{all_of}
-use Rattle.wat_types.specs.Laws.Value.{val_type_consumes}
+use Rattle.std.proofs.Common.{◌≡◌, true, List, [], ◌∷◌, flat_map, map, codes, refl, rules, ap, append-nil}
+use Rattle.wat_print_instr.specs.Laws.Prelude.{val_type_consumes, listed_form, val_form, val_prints}
+use Rattle.wat_print_module.specs.Prelude.{and_parts, all_of, LocalModel, locals, paren_form, by_itself, each, Prints, made_prints, whole_where, respelled, many_prints, paren_prints, after_prints, local_label, listed_local_form, local_form, locals_form}
+use Rattle.wat_print.specs.Label.{in_groups}
+use Rattle.wat_fields.specs.Local.{local_of, labelled_local, plain_locals, listed_locals, local_parser, at_local}
+use Rattle.wat_print_module.specs.Local.{local_type, local_parser_form}
 use Rattle.wat_fields.specs.Laws.Local.{local_group_consumes}
-use Rattle.wat_fields.specs.Local.{LocalTy, local_of, labelled_local, plain_locals, listed_locals}
-use Rattle.wat_fields.specs.Local.{local_parser, at_local}
-use Rattle.wat_fields.specs.Locals.{locals}
-use Rattle.wat_print.specs.Form.{paren_form}
-use Rattle.wat_print.specs.Label.{by_itself, in_groups, listed_form}
-use Rattle.wat_print.specs.Parts.{each}
-use Rattle.wat_print.specs.Prints.{Prints}
-use Rattle.wat_print.specs.Reference.{val_form}
-use Rattle.wat_print.specs.Laws.Form.{made_prints, whole_where, respelled, many_prints}
-use Rattle.wat_print.specs.Laws.Form.{paren_prints, after_prints}
 use Rattle.wat_print.specs.Laws.Label.{listed}
-use Rattle.wat_print.specs.Laws.Reference.{val_prints}
-use Rattle.wat_print_module.specs.Local.{local_label, local_type, listed_local_form, local_form}
-use Rattle.wat_print_module.specs.Local.{locals_form, local_parser_form}
 
 -- locals in one group, and groups of locals
 locals_listed : Prints (listed_form val_form local_label local_type) listed_locals
-    × ((ls : List LocalTy) → each listed_local_form.printable ls ≡ true
+    × ((ls : List LocalModel) → each listed_local_form.printable ls ≡ true
     → each local_parser_form.ready (in_groups local_label ls) ≡ true)
-    × ((gs : List (List LocalTy)) → each local_parser_form.printable gs ≡ true
+    × ((gs : List (List LocalModel)) → each local_parser_form.printable gs ≡ true
     → each listed_local_form.printable (all_of gs) ≡ true)
 unfolding listed_locals labelled_local plain_locals
 locals_listed =
@@ -37,17 +25,17 @@ local_parser_prints = after_prints locals_listed.0 (codes "local") refl refl
 
 -- ---- each local in a separate group
 
-alone : (ls : List LocalTy) → (all_of (map by_itself ls) ≡ ls)
+alone : (ls : List LocalModel) → (all_of (map by_itself ls) ≡ ls)
     × (flat_map (paren_form local_parser_form).spell (map by_itself ls)
     ≡ flat_map local_form.spell ls)
 alone [] = (refl, refl)
 alone (l ∷ ls) =
     let a = alone ls in (
-      ap (λ (ks : List LocalTy). l ∷ ks) a.0,
+      ap (λ (ks : List LocalModel). l ∷ ks) a.0,
       rw (append-nil (listed_local_form.spell l), a.1) refl,
     )
 
-alone_ready : (ls : List LocalTy) → each listed_local_form.printable ls ≡ true
+alone_ready : (ls : List LocalModel) → each listed_local_form.printable ls ≡ true
     → each local_parser_form.ready (map by_itself ls) ≡ true
 alone_ready [] h = refl
 alone_ready (l ∷ ls) h =

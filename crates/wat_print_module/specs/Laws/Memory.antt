@@ -1,20 +1,9 @@
 -- Laws: memories are read again.
-use Rattle.std.specs.Prelude.{◌≡◌, true, not, List, [], ◌∷◌, codes}
-use Rattle.std.proofs.Common.{rules, arith, refl}
-use Rattle.wat_lexer.specs.Token.{Tok, LParen}
-use Rattle.wat_tokens.specs.Tests.{begins_integer, begins_lparen}
-use Rattle.wat_links.specs.Import.{at_inline_import}
-use Rattle.wat_fields.specs.Memory.{imported, normal, inline, memory_of, inline_memory}
-use Rattle.wat_fields.specs.Memory.{memory_kind, memory, at_inline_data}
-use Rattle.wat_print.specs.Prints.{Prints, Unparses}
-use Rattle.wat_print.specs.Laws.Form.{seq_prints, behind_prints, made_prints, whole_prints}
-use Rattle.wat_print.specs.Laws.Form.{else_prints, after_prints, group_prints}
-use Rattle.wat_print.specs.Laws.Limits.{width_prints, page_prints, memory_prints}
-use Rattle.wat_print_module.specs.Memory.{inline_memory_form, memory_kind_parts, memory_kind_form}
-use Rattle.wat_print_module.specs.Memory.{memory_field_parts, memory_field_form}
-use Rattle.wat_print_module.specs.Laws.DataVal.{data_vals_prints}
-use Rattle.wat_print_module.specs.Laws.FieldHead.{inline_import_prints, head_prints}
-use Rattle.wat_print_module.specs.Laws.Fronts.{no_export, no_import_word}
+use Rattle.std.proofs.Common.{◌≡◌, true, not, List, [], ◌∷◌, codes, rules, arith, refl}
+use Rattle.wat_print_module.specs.Prelude.{Token, LParen, begins_integer, begins_lparen, at_inline_import, Prints, Unparses, seq_prints, behind_prints, made_prints, whole_prints, else_prints, after_prints, group_prints, width_prints, memory_prints, data_vals_prints, inline_import_prints, head_prints, no_export, no_import_word}
+use Rattle.wat_print.specs.Laws.Limits.{page_prints}
+use Rattle.wat_fields.specs.Memory.{imported, normal, inline, memory_of, inline_memory, memory_kind, memory, at_inline_data}
+use Rattle.wat_print_module.specs.Memory.{inline_memory_form, memory_kind_parts, memory_kind_form, memory_field_parts, memory_field_form}
 
 inline_memory_prints : Unparses inline_memory_form (λ v. inline v.0 v.1.0 v.1.1) inline_memory
 unfolding inline_memory
@@ -23,7 +12,7 @@ inline_memory_prints =
     (group_prints data_vals_prints (codes "data") refl refl) (search rules)) (search rules)
     (search rules)) (λ v. inline v.0 v.1.0 v.1.1)
 
-number_no_paren : (y : List Tok) → begins_integer y ≡ true → not (begins_lparen y) ≡ true
+number_no_paren : (y : List Token) → begins_integer y ≡ true → not (begins_lparen y) ≡ true
 number_no_paren (LParen ∷ y) e = absurd cc
 number_no_paren [] e = refl
 number_no_paren (_ ∷ y) e = refl

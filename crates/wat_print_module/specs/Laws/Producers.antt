@@ -1,38 +1,14 @@
 -- Laws: round trips of the `producers` section.
-use Rattle.std.specs.Prelude.{◌≡◌, ℕ, true, false, List, [], ◌∷◌, ◌++◌, codes, flat_map, map}
-use Rattle.std.specs.Prelude.{Option, Some, None, is_some}
-use Rattle.std.specs.Cmp.Lexicographic.{bytes_decides}
-use Rattle.std.specs.Str.{bytes_eq}
-use Rattle.std.proofs.Common.{refl, rules, arith, ap, subst, ◌∙◌, append_assoc, append-nil}
-use Rattle.std.proofs.lemmas.Bool.{and_parts, false≢true}
-use Rattle.std.proofs.lemmas.Grind.{flat_map-append}
+use Rattle.std.proofs.Common.{◌≡◌, ℕ, true, false, List, [], ◌∷◌, ◌++◌, codes, flat_map, map, Option, Some, None, is_some, refl, rules, arith, ap, subst, ◌∙◌, append_assoc, append-nil}
+use Rattle.std.proofs.lemmas.Bool.{false≢true}
 use Rattle.std.proofs.lemmas.List.Folds.{flat_map-map}
-use Rattle.wat_lexer.specs.Token.{Tok}
-use Rattle.wat_tokens.specs.Groups.{paren}
-use Rattle.wat_tokens.specs.Parts.{made}
-use Rattle.wat_tokens.specs.Tests.{more, look_up}
-use Rattle.wat_tokens.specs.Views.{no_items}
-use Rattle.wat_tokens.specs.Laws.Production.{by_test}
-use Rattle.wat_tokens.specs.Test.{at_more}
-use Rattle.wat_links.specs.ProducerEntry.{field_words, Versioned, ProducerTy, field_word}
-use Rattle.wat_links.specs.ProducerEntry.{producer_entry}
-use Rattle.wat_links.specs.Producers.{word_of, same_field, producer_entries, field_entries}
-use Rattle.wat_links.specs.Producers.{with_entries, fields_of, producers}
+use Rattle.wat_print_instr.specs.Laws.Prelude.{bytes_decides, bytes_eq, and_parts, flat_map-append, Token, paren, made, more, no_items, by_test, at_more, Form, seq_form, many_form, paren_form, each, Prints, Inside, named_form, WellFormed, seq_prints, made_prints, many_prints, paren_prints, grouped_prints, text_prints, plain_prints, annotated, named_prints}
+use Rattle.wat_tokens.specs.Tests.{look_up}
+use Rattle.wat_links.specs.ProducerEntry.{field_words, Versioned, ProducerEntryModel, field_word, producer_entry}
+use Rattle.wat_links.specs.Producers.{word_of, same_field, producer_entries, field_entries, with_entries, fields_of, producers}
 use Rattle.wat_links.specs.Laws.Producers.{producer_entry_consumes}
-use Rattle.wat_print.specs.Form.{Form, seq_form, many_form, paren_form}
-use Rattle.wat_print.specs.Parts.{each}
-use Rattle.wat_print.specs.Prints.{Prints, Inside}
-use Rattle.wat_print.specs.Reference.{named_form}
-use Rattle.wat_print.specs.WellFormed.{WellFormed}
-use Rattle.wat_print.specs.Laws.Form.{seq_prints, made_prints, many_prints, paren_prints}
-use Rattle.wat_print.specs.Laws.Form.{grouped_prints}
-use Rattle.wat_print.specs.Laws.Strings.{text_prints}
-use Rattle.wat_print_instr.specs.Laws.Form.{plain_prints}
-use Rattle.wat_print_module.specs.Producers.{ProducedTy, versioned_form, produced_form}
-use Rattle.wat_print_module.specs.Producers.{fields_behind, are_in_turn, all_fields_form}
-use Rattle.wat_print_module.specs.Producers.{printable_producers, fields_form, producers_form}
-use Rattle.wat_print.specs.Laws.Annotation.{annotated}
-use Rattle.wat_print.specs.Laws.Reference.{named_prints}
+use Rattle.wat_print_module.specs.Producers.{ProducersModel, versioned_form, produced_form, fields_behind, are_in_turn, all_fields_form, printable_producers, fields_form, producers_form}
+use Rattle.wat_links.specs.Laws.Named.{field_is_named}
 
 -- ---- the words of fields
 
@@ -59,11 +35,11 @@ processor = held (look_up field_words (codes "processed-by")) refl
 
 field_word_prints : Prints (named_form word_of) field_word
 unfolding field_word
-field_word_prints = named_prints field_words word_of (λ k. grind arith) (λ k. grind arith)
+field_word_prints = named_prints field_words word_of (λ k. grind arith) field_is_named
 
 -- ---- entries
 
-abbrev entry_form : Form ProducerTy
+abbrev entry_form : Form ProducerEntryModel
 entry_form = paren_form (seq_form (named_form word_of) versioned_form)
 
 entry_prints : Prints entry_form producer_entry
@@ -72,7 +48,7 @@ entry_prints =
     paren_prints (seq_prints field_word_prints (seq_prints text_prints text_prints (search rules))
     (search rules))
 
-abbrev entries_form : Form (List ProducerTy)
+abbrev entries_form : Form (List ProducerEntryModel)
 entries_form = many_form more entry_form
 
 entries_prints : Prints entries_form producer_entries
@@ -80,28 +56,28 @@ unfolding producer_entries
 entries_prints =
     many_prints at_more entry_prints producer_entry_consumes (search rules) (search rules)
 
-abbrev entries_of : ProducerField → List Versioned → List ProducerTy
+abbrev entries_of : ProducerField → List Versioned → List ProducerEntryModel
 entries_of k xs = map (λ x. (k, x)) xs
 
 -- ---- fields as their entries
 
 same_entries : (k : ProducerField) → same_field k k ≡ true
-    → (xs : List Versioned) (es : List ProducerTy)
+    → (xs : List Versioned) (es : List ProducerEntryModel)
     → field_entries k (entries_of k xs ++ es) ≡ xs ++ field_entries k es
 same_entries k e [] es = refl
 same_entries k e (x ∷ xs) es =
     rw e (ap (λ (l : List Versioned). x ∷ l) (same_entries k e xs es))
 
 other_entries : (j k : ProducerField) → same_field j k ≡ false → (xs : List Versioned)
-    (es : List ProducerTy) → field_entries k (entries_of j xs ++ es) ≡ field_entries k es
+    (es : List ProducerEntryModel) → field_entries k (entries_of j xs ++ es) ≡ field_entries k es
 other_entries j k e [] es = refl
 other_entries j k e (x ∷ xs) es = rw e (other_entries j k e xs es)
 
 -- entries of the three fields
-abbrev three : List Versioned → List Versioned → List Versioned → List ProducerTy
+abbrev three : List Versioned → List Versioned → List Versioned → List ProducerEntryModel
 three xs ys zs = entries_of language xs ++ (entries_of sdk ys ++ (entries_of processor zs ++ []))
 
-abbrev three_fields : List Versioned → List Versioned → List Versioned → List ProducedTy
+abbrev three_fields : List Versioned → List Versioned → List Versioned → List ProducersModel
 three_fields xs ys zs =
     with_entries (codes "language") xs
     ++ (with_entries (codes "sdk") ys ++ (with_entries (codes "processed-by") zs ++ []))
@@ -121,25 +97,25 @@ three_are xs ys zs =
       append_assoc,
     ) (simp append-nil)
 
-plain_spelled : (k : ProducerField) (xs : List Versioned) (es : List ProducerTy)
+plain_spelled : (k : ProducerField) (xs : List Versioned) (es : List ProducerEntryModel)
     → entries_form.spell (entries_of k xs ++ es)
     ≡ flat_map (produced_form (word_of k)).spell xs ++ entries_form.spell es
 plain_spelled k xs es =
     flat_map-append entry_form.spell (entries_of k xs) es
-    ∙ ap (λ (l : List Tok). l ++ entries_form.spell es)
+    ∙ ap (λ (l : List Token). l ++ entries_form.spell es)
     (flat_map-map entry_form.spell (λ (x : Versioned). (k, x)) xs)
 
-spelled_with : (k : ProducerField) (xs : List Versioned) (es : List ProducerTy)
-    (fs : List ProducedTy)
+spelled_with : (k : ProducerField) (xs : List Versioned) (es : List ProducerEntryModel)
+    (fs : List ProducersModel)
     → entries_form.spell es ≡ all_fields_form.spell fs
     → entries_form.spell (entries_of k xs ++ es)
     ≡ all_fields_form.spell (with_entries (word_of k) xs ++ fs)
 spelled_with k [] es fs e = e
 spelled_with k (x ∷ xs) es fs e =
     plain_spelled k (x ∷ xs) es
-    ∙ ap (λ (l : List Tok). flat_map (produced_form (word_of k)).spell (x ∷ xs) ++ l) e
+    ∙ ap (λ (l : List Token). flat_map (produced_form (word_of k)).spell (x ∷ xs) ++ l) e
 
-ready_with : (k : ProducerField) (xs : List Versioned) (es : List ProducerTy)
+ready_with : (k : ProducerField) (xs : List Versioned) (es : List ProducerEntryModel)
     → each versioned_form.printable xs ≡ true → entries_form.ready es ≡ true
     → entries_form.ready (entries_of k xs ++ es) ≡ true
 ready_with k [] es h i = i
@@ -148,7 +124,7 @@ ready_with k (x ∷ xs) es h i =
     rw (a.0) (ready_with k xs es a.1 i)
 
 -- the entries of the first field if the field has the word, or no entries
-first_field : (w : List ℕ) (fs : List ProducedTy) → all_fields_form.printable fs ≡ true
+first_field : (w : List ℕ) (fs : List ProducersModel) → all_fields_form.printable fs ≡ true
     → (xs : List Versioned) × (fs ≡ with_entries w xs ++ fields_behind w fs)
     × (each versioned_form.printable xs ≡ true)
     × (all_fields_form.printable (fields_behind w fs) ≡ true)
@@ -165,13 +141,13 @@ first_field w ((v, x ∷ xs) ∷ fs) h =
     ))
     (λ e. ([], rw e refl, refl, rw e h))
 
-no_fields : (fs : List ProducedTy) → no_items fs ≡ true → fs ≡ []
+no_fields : (fs : List ProducersModel) → no_items fs ≡ true → fs ≡ []
 no_fields [] h = refl
 no_fields (f ∷ fs) h = absurd cc
 
 -- entries that are the fields
-as_entries : (fs : List ProducedTy) → printable_producers fs ≡ true
-    → (es : List ProducerTy) × (entries_form.spell es ≡ fields_form.spell fs)
+as_entries : (fs : List ProducersModel) → printable_producers fs ≡ true
+    → (es : List ProducerEntryModel) × (entries_form.spell es ≡ fields_form.spell fs)
     × (entries_form.ready es ≡ true) × (fields_of es ≡ fs)
 as_entries fs h =
     let a = and_parts (all_fields_form.printable fs) (are_in_turn fs) h in
@@ -192,7 +168,8 @@ as_entries fs h =
 
 -- ---- each value that a text spells can be written
 
-field_printable : (k : ProducerField) (es : List ProducerTy) → entries_form.printable es ≡ true
+field_printable : (k : ProducerField) (es : List ProducerEntryModel)
+    → entries_form.printable es ≡ true
     → each versioned_form.printable (field_entries k es) ≡ true
 field_printable k [] h = refl
 field_printable k (e ∷ es) h =
@@ -206,7 +183,7 @@ turn_printable : (xs ys zs : List Versioned) → each versioned_form.printable x
     ++ with_entries (codes "processed-by") zs) ≡ true
 turn_printable xs ys zs a b c = grind arith
 
-fields_printable : (es : List ProducerTy) → entries_form.printable es ≡ true
+fields_printable : (es : List ProducerEntryModel) → entries_form.printable es ≡ true
     → printable_producers (fields_of es) ≡ true
 fields_printable es h =
     turn_printable (field_entries language es) (field_entries sdk es) (field_entries processor es)
@@ -219,15 +196,15 @@ fields_prints =
     let q = made_prints entries_prints fields_of in
     plain_prints all_fields_form.spell
     (λ fs h. (let x = as_entries fs h in
-    subst (λ (c : List Tok). WellFormed c) x.1 (q.nests x.0 x.2)))
+    subst (λ (c : List Token). WellFormed c) x.1 (q.nests x.0 x.2)))
     (λ fs r h e. (let x = as_entries fs h in
-    subst (λ (gs : List ProducedTy). (made fields_of producer_entries).spells gs
+    subst (λ (gs : List ProducersModel). (made fields_of producer_entries).spells gs
     (fields_form.spell fs) r) x.3
-    (subst (λ (c : List Tok). (made fields_of producer_entries).spells (fields_of x.0) c r) x.1
+    (subst (λ (c : List Token). (made fields_of producer_entries).spells (fields_of x.0) c r) x.1
     (q.here x.0 r x.2 e))))
     (record {
       holds = λ fs c r a s. (let x = q.only fs c r a s in
-          subst (λ (gs : List ProducedTy). printable_producers gs ≡ true) x.1
+          subst (λ (gs : List ProducersModel). printable_producers gs ≡ true) x.1
           (fields_printable x.0 x.2));
     })
 

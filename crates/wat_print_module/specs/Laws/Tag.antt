@@ -1,15 +1,8 @@
 -- Laws: tags are read again.
-use Rattle.std.specs.Prelude.{codes}
-use Rattle.std.proofs.Common.{rules, refl}
-use Rattle.wat_links.specs.Import.{at_inline_import}
+use Rattle.std.proofs.Common.{codes, rules, refl}
+use Rattle.wat_print_module.specs.Prelude.{at_inline_import, Prints, seq_prints, made_prints, whole_prints, option_prints, after_prints, use_prints, inline_import_prints, head_prints, no_export, no_import_word}
 use Rattle.wat_fields.specs.Tag.{tag_of, tag}
-use Rattle.wat_print.specs.Prints.{Prints}
-use Rattle.wat_print.specs.Laws.Form.{seq_prints, made_prints, whole_prints, option_prints}
-use Rattle.wat_print.specs.Laws.Form.{after_prints}
-use Rattle.wat_print.specs.Laws.Use.{use_prints}
 use Rattle.wat_print_module.specs.Tag.{tag_parts, tag_form}
-use Rattle.wat_print_module.specs.Laws.FieldHead.{inline_import_prints, head_prints}
-use Rattle.wat_print_module.specs.Laws.Fronts.{no_export, no_import_word}
 
 pub tag_prints : Prints tag_form tag
 unfolding tag

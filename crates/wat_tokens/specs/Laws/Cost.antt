@@ -1,8 +1,6 @@
 -- Laws: the counts of consecutive calls.
 use Rattle.std.proofs.Common.{◌∙◌}
-use Rattle.wat_tokens.specs.Cost.{Cost, tokens_alone, words_too, turns_too, Costs}
-use Rattle.wat_tokens.specs.Counts.{Quiet}
-use Rattle.wat_tokens.specs.State.{State}
+use Rattle.wat_tokens.specs.Prelude.{Cost, tokens_alone, words_too, turns_too, Costs, Quiet, State}
 
 pub costs_then : (k : Cost) (a b e : State) → Costs k a b → Costs k b e → Costs k a e
 costs_then tokens_alone a b e p q = (q.0 ∙ p.0, q.1 ∙ p.1, q.2 ∙ p.2, q.3 ∙ p.3)

@@ -1,7 +1,6 @@
 -- Laws: lists that have an item, and lists with another list appended.
 use Rattle.std.proofs.Common.{◌≡◌, false, List, [], ◌∷◌, ◌++◌, refl, ap, ◌∙◌, append_assoc}
-use Rattle.wat_tokens.specs.Many.{Extends}
-use Rattle.wat_tokens.specs.Views.{no_items}
+use Rattle.wat_tokens.specs.Prelude.{Extends, no_items}
 
 pub filled_before : {A : Type 0} (xs ys : List A) → no_items xs ≡ false
     → no_items (xs ++ ys) ≡ false

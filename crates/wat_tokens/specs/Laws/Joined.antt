@@ -1,13 +1,6 @@
 -- Laws: consecutive groups of parts, as the list of all their parts.
-use Rattle.std.specs.Prelude.{◌≡◌, ◌≤◌, List, [], ◌∷◌, ◌++◌, Some, None, refl}
-use Rattle.std.proofs.Common.{ap, sym, ◌∙◌, append_assoc}
-use Rattle.std.proofs.lemmas.List.{append-nil}
-use Rattle.wat_lexer.specs.Token.{Tok}
-use Rattle.wat_tokens.specs.Production.{Production, Read, bind, some_of, option_of}
-use Rattle.wat_tokens.specs.Test.{Test, run}
-use Rattle.wat_tokens.specs.Adding.{add_all}
-use Rattle.wat_tokens.specs.Joined.{all_of, join, joined_behind, joined}
-use Rattle.wat_tokens.specs.ManySpells.{many_reads}
+use Rattle.std.proofs.Common.{◌≡◌, ◌≤◌, List, [], ◌∷◌, ◌++◌, Some, None, refl, ap, sym, ◌∙◌, append_assoc}
+use Rattle.wat_tokens.specs.Laws.Prelude.{append-nil, Token, Production, Read, bind, some_of, option_of, Test, run, add_all, all_of, join, joined_behind, joined, many_reads}
 
 module _ {A : Type 0} where
   pub joins : (gs : List (List A)) (before : List A)
@@ -23,6 +16,6 @@ module _ {A : Type 0} where
 
 -- appended to the empty list, the parts are what `joined` reads
 pub joined_reads : {A : Type 0} (follows : Test) (g : Production (List A))
-    (consumes : 1 ≤ g.least) (t : List Tok)
+    (consumes : 1 ≤ g.least) (t : List Token)
     → joined_behind [] (many_reads (λ r. run follows r) g t) ≡ (joined follows g consumes).reads t
 joined_reads follows g consumes t = join_all (many_reads (λ r. run follows r) g t)

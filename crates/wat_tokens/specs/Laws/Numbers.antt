@@ -1,6 +1,5 @@
 -- Laws: numbers that differ, and powers of two.
-use Rattle.std.specs.Prelude.{◌≡◌, ◌≢◌, ℕ, suc, ◌*◌, ◌^◌, ◌==◌, true, false}
-use Rattle.std.proofs.Common.{arith}
+use Rattle.std.proofs.Common.{◌≡◌, ◌≢◌, ℕ, suc, ◌*◌, ◌^◌, ◌==◌, true, false, arith}
 use Rattle.std.specs.Cmp.{unsigned_Decides}
 
 pub apart : (m n : ℕ) → (m == n) ≡ false → m ≢ n

@@ -1,20 +1,11 @@
 -- Laws: questions that a rest settles keep their answers before that rest.
-use Rattle.std.specs.Prelude.{◌≡◌, ℕ, ◌+◌, ◌≤◌, ◌<◌, ltb, Bool, true, false, not, ◌&&◌, ◌||◌, List, []}
-use Rattle.std.specs.Prelude.{◌∷◌, ◌++◌, length, refl, if◌then◌else◌}
-use Rattle.std.specs.Cmp.Derive.{both_true}
-use Rattle.std.proofs.Common.{sym, ◌∙◌, append_assoc, length-append, arith}
-use Rattle.std.proofs.lemmas.Bool.{and_parts, or_from, or_left, or_right, and_right, ltb-false, not-true}
+use Rattle.std.proofs.Common.{sym, ◌∙◌, append_assoc, length-append, arith, ◌≡◌, ℕ, ◌+◌, ◌≤◌, ◌<◌, ltb, Bool, true, false, not, ◌&&◌, ◌||◌, List, [], ◌∷◌, ◌++◌, length, refl, if◌then◌else◌}
 use Rattle.std.proofs.lemmas.Bool.Decides.{Decides-ltb}
-use Rattle.wat_lexer.specs.Token.{Tok, LParen}
-use Rattle.wat_tokens.specs.Asks.{Asks, nothing, ask, also, behind, everything, Alike}
-use Rattle.wat_tokens.specs.Parens.{opens, closes}
-use Rattle.wat_tokens.specs.Kind.{Kind, a_lparen}
-use Rattle.wat_tokens.specs.Tests.{second}
-use Rattle.wat_tokens.specs.Test.{Question, starts, after, either, both, opposite, always}
-use Rattle.wat_tokens.specs.Test.{answer, sight}
-use Rattle.wat_tokens.specs.Settled.{need_behind, need_no, need, settled}
+use Rattle.wat_lexer.specs.Laws.Prelude.{and_parts, or_from, or_left, or_right, and_right, ltb-false, not-true, by_test}
+use Rattle.wat_tokens.specs.Prelude.{both_true, Token, LParen, Asks, nothing, ask, also, everything, Alike, opens, closes, Kind, a_lparen, second, Question, starts, after, either, both, opposite, always, answer, sight, settled}
+use Rattle.wat_tokens.specs.Asks.{behind}
+use Rattle.wat_tokens.specs.Settled.{need_behind, need_no, need}
 use Rattle.wat_tokens.specs.Laws.Parens.{opens-append, closes-append}
-use Rattle.wat_tokens.specs.Laws.Production.{by_test}
 use Rattle.wat_tokens.specs.Laws.Test.{sees}
 
 flip : (x b : Bool) → not x ≡ b → x ≡ not b
@@ -40,7 +31,7 @@ both_stay false false y u v p q e = rw (p refl) refl
 one_is_more : {P : Type 0} → 1 ≤ 0 → P
 one_is_more le = absurd (omega (arith, le))
 
-module _ (off off_second : Question → Bool) (s : List Tok)
+module _ (off off_second : Question → Bool) (s : List Token)
     (is_off : (a : Question) → off a ≡ true → answer a s ≡ false)
     (is_off_second : (a : Question) → off_second a ≡ true → second (λ r. answer a r) s ≡ false)
   where
@@ -48,7 +39,7 @@ module _ (off off_second : Question → Bool) (s : List Tok)
     lone_stays : (a : Question) → (if off a then 0 else 1) ≤ 0 → answer a s ≡ false
     lone_stays a le = by_test (off a) (λ o. is_off a o) (λ o. one_is_more (rw o at le))
 
-    pair_stays : (k : Kind) (e r : List Tok)
+    pair_stays : (k : Kind) (e r : List Token)
         → (if off (after (starts a_lparen) (starts k)) then 0 else 1) ≤ length e
         → opens e ≤ closes e → answer (after (starts a_lparen) (starts k)) (e ++ r) ≡ false
         → answer (after (starts a_lparen) (starts k)) (e ++ s) ≡ false
@@ -57,7 +48,7 @@ module _ (off off_second : Question → Bool) (s : List Tok)
     pair_stays k (LParen ∷ y ∷ e) r le level h = h
     pair_stays k (_ ∷ e) r le level h = refl
 
-    short_stays : (a : Question) (e r : List Tok) → (if off_second a then 0 else 1) ≤ length e
+    short_stays : (a : Question) (e r : List Token) → (if off_second a then 0 else 1) ≤ length e
         → answer (after (always true) a) (e ++ r) ≡ false → sight a < 2 → off a ≡ true
         → answer (after (always true) a) (e ++ s) ≡ false
     short_stays a [] r le h few o =
@@ -66,7 +57,7 @@ module _ (off off_second : Question → Bool) (s : List Tok)
     short_stays a (x ∷ y ∷ e) r le h few o =
         sym (sees a (y ∷ e) r s (omega (arith, few))) ∙ h
 
-    behind_stays : (a : Question) (e r : List Tok) → need_behind off off_second a ≤ length e
+    behind_stays : (a : Question) (e r : List Token) → need_behind off off_second a ≤ length e
         → answer (after (always true) a) (e ++ r) ≡ false
         → answer (after (always true) a) (e ++ s) ≡ false
     behind_stays a e r le h =
@@ -76,7 +67,7 @@ module _ (off off_second : Question → Bool) (s : List Tok)
         (λ k. (let far : 1 + sight a ≤ length e = rw k at le in
         sym (sees (after (always true) a) e r s (omega (arith, far))) ∙ h))
 
-    no_stays : (a : Question) (e r : List Tok) → need_no off off_second a ≤ length e
+    no_stays : (a : Question) (e r : List Token) → need_no off off_second a ≤ length e
         → opens e ≤ closes e → answer a (e ++ r) ≡ false → answer a (e ++ s) ≡ false
     no_stays (starts k) [] r le level h = lone_stays (starts k) le
     no_stays (starts k) (x ∷ e) r le level h = h
@@ -84,7 +75,7 @@ module _ (off off_second : Question → Bool) (s : List Tok)
     no_stays (after (always true) a) e r le level h = behind_stays a e r le h
     no_stays a e r le level h = sym (sees a e r s le) ∙ h
 
-    stays : (b : Bool) (a : Question) (e r : List Tok) → need off off_second b a ≤ length e
+    stays : (b : Bool) (a : Question) (e r : List Token) → need off off_second b a ≤ length e
         → opens e ≤ closes e → answer a (e ++ r) ≡ b → answer a (e ++ s) ≡ b
     stays b (either a c) e r le level h =
         either_stays b (answer a (e ++ r)) (answer c (e ++ r)) (answer a (e ++ s)) (answer c (e ++ s))
@@ -103,7 +94,7 @@ module _ (off off_second : Question → Bool) (s : List Tok)
     enough : (k n m : ℕ) → not (ltb k n) ≡ true → k ≤ m → n ≤ m
     enough k n m e le = omega (arith, ltb-false k n (not-true (ltb k n) e), le)
 
-    all_stay : (a : Asks) (k : ℕ) (e r : List Tok) → k ≤ length e → opens e ≤ closes e
+    all_stay : (a : Asks) (k : ℕ) (e r : List Token) → k ≤ length e → opens e ≤ closes e
         → settled off off_second k a ≡ true → Alike a (e ++ r) (e ++ s)
     all_stay nothing k e r le level h = tt
     all_stay (ask b test) k e r le level h = λ i.
@@ -117,5 +108,6 @@ module _ (off off_second : Question → Bool) (s : List Tok)
         (omega (arith, opens-append d e, closes-append d e, level, flat)) h)
     all_stay everything k e r le level h = absurd cc
 
-    pub settled_alike : (a : Asks) (r : List Tok) → settled off off_second 0 a ≡ true → Alike a r s
+    pub settled_alike : (a : Asks) (r : List Token) → settled off off_second 0 a ≡ true
+        → Alike a r s
     settled_alike a r h = all_stay a 0 [] r (omega arith) (omega arith) h

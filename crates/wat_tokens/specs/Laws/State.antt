@@ -1,11 +1,8 @@
 -- Laws: a parser as contracts see it.
-use Rattle.std.specs.Prelude.{◌≡◌, List, ℕ, zero, suc, ◌+◌, drop, Bool, true}
-use Rattle.std.proofs.Common.{ap, sym, ◌∙◌, arith}
-use Rattle.wat_lexer.specs.Sight.{visible_tokens, hidden_count}
-use Rattle.wat_lexer.specs.Token.{Tok}
-use Rattle.wat_tokens.specs.State.{behind, State, annotated}
+use Rattle.std.proofs.Common.{◌≡◌, List, ℕ, zero, suc, ◌+◌, drop, Bool, true, ap, sym, ◌∙◌, arith}
+use Rattle.wat_tokens.specs.Prelude.{visible_tokens, hidden_count, Token, behind, State, annotated}
 
-pub behind_then : (known : Bool) (m n : ℕ) (t : List Tok)
+pub behind_then : (known : Bool) (m n : ℕ) (t : List Token)
     → behind known n (behind known m t) ≡ behind known (m + n) t
 unfolding behind
 behind_then known zero n t = ap (λ (k : ℕ). behind known k t) {x = n} {y = 0 + n} (omega arith)
@@ -17,5 +14,5 @@ pub annotated_is : (s : State) → s.known ≡ true → s.left ≡ visible_token
     → annotated s ≡ s
 annotated_is s k e =
     let f : visible_tokens true s.rest ≡ s.left = rw (← k) (sym e) in
-    ap (λ (p : Bool × List Tok). record s { known = p.0; left = p.1 })
+    ap (λ (p : Bool × List Token). record s { known = p.0; left = p.1 })
     {x = (true, visible_tokens true s.rest)} {y = (s.known, s.left)} (cc)

@@ -1,18 +1,12 @@
 -- Laws: an answer depends on a limited number of tokens, and not on what follows the end of a group.
-use Rattle.std.specs.Prelude.{◌≡◌, ◌≤◌, Bool, true, false, not, ◌&&◌, ◌||◌, List, [], ◌∷◌, ◌++◌}
-use Rattle.std.specs.Prelude.{length, refl}
-use Rattle.std.proofs.Common.{ap, sym, ◌∙◌, append_assoc, arith}
-use Rattle.std.proofs.lemmas.Bool.{and_parts, not-true}
-use Rattle.wat_lexer.specs.Token.{Tok, LParen, RParen}
-use Rattle.wat_tokens.specs.Asks.{Asks, nothing, ask, also, behind, everything, Alike}
-use Rattle.wat_tokens.specs.Laws.Production.{by_test}
-use Rattle.wat_tokens.specs.Kind.{Kind, a_lparen, a_rparen, fits, next_is}
-use Rattle.wat_tokens.specs.Tests.{ends}
-use Rattle.wat_tokens.specs.Test.{Question, starts, ended, after, either, both, opposite, always}
-use Rattle.wat_tokens.specs.Test.{answer, sight, is_content, is_mute, denies_end, is_calm}
+use Rattle.std.proofs.Common.{ap, sym, ◌∙◌, append_assoc, arith, ◌≡◌, ◌≤◌, Bool, true, false, not, ◌&&◌, ◌||◌, List, [], ◌∷◌, ◌++◌, length, refl}
+use Rattle.wat_lexer.specs.Laws.Prelude.{and_parts, not-true, by_test}
+use Rattle.wat_tokens.specs.Prelude.{Token, LParen, RParen, Asks, nothing, ask, also, everything, Alike, Kind, a_lparen, a_rparen, fits, next_is, ends, Question, starts, after, either, both, opposite, always, answer, sight, denies_end}
+use Rattle.wat_tokens.specs.Asks.{behind}
+use Rattle.wat_tokens.specs.Test.{ended, is_content, is_mute, is_calm}
 
 -- no token, or a parenthesis
-abbrev pub is_quiet : List Tok → Bool
+abbrev pub is_quiet : List Token → Bool
 is_quiet [] = true
 is_quiet (LParen ∷ r) = true
 is_quiet (RParen ∷ r) = true
@@ -20,7 +14,7 @@ is_quiet (_ ∷ r) = false
 
 -- ---- the number of tokens
 
-pub sees : (a : Question) (e r s : List Tok) → sight a ≤ length e
+pub sees : (a : Question) (e r s : List Token) → sight a ≤ length e
     → answer a (e ++ r) ≡ answer a (e ++ s)
 sees (starts k) [] r s le = absurd (omega (arith, le))
 sees (starts k) (x ∷ e) r s le = refl
@@ -44,14 +38,14 @@ content_off a_lparen e = absurd cc
 content_off a_rparen e = absurd cc
 content_off _ e = (refl, refl)
 
-quiet_off : (k : Kind) (r : List Tok) → is_content k ≡ true → is_quiet r ≡ true
+quiet_off : (k : Kind) (r : List Token) → is_content k ≡ true → is_quiet r ≡ true
     → next_is k r ≡ false
 quiet_off k [] c q = refl
 quiet_off k (LParen ∷ r) c q = (content_off k c).0
 quiet_off k (RParen ∷ r) c q = (content_off k c).1
 quiet_off k (_ ∷ r) c q = absurd cc
 
-mute_same : (a : Question) (r s : List Tok) → is_mute a ≡ true → is_quiet r ≡ true
+mute_same : (a : Question) (r s : List Token) → is_mute a ≡ true → is_quiet r ≡ true
     → is_quiet s ≡ true → answer a r ≡ answer a s
 mute_same (starts k) r s m p q = quiet_off k r m p ∙ sym (quiet_off k s m q)
 mute_same (either a b) r s m p q =
@@ -64,7 +58,7 @@ mute_same (opposite a) r s m p q = ap not (mute_same a r s m p q)
 mute_same (always b) r s m p q = refl
 mute_same _ r s m p q = absurd cc
 
-pub end_denied : (a : Question) (r : List Tok) → denies_end a ≡ true → ends r ≡ true
+pub end_denied : (a : Question) (r : List Token) → denies_end a ≡ true → ends r ≡ true
     → answer a r ≡ false
 end_denied (starts k) [] d q = refl
 end_denied (starts k) (RParen ∷ r) d q = not-true (fits k RParen) d
@@ -76,7 +70,7 @@ end_denied (either a b) r d q =
 end_denied (both a b) r d q = rw (end_denied a r d q) refl
 end_denied _ r d q = absurd cc
 
-calm_same : (a : Question) (e r s : List Tok) → is_calm a ≡ true → is_quiet r ≡ true
+calm_same : (a : Question) (e r s : List Token) → is_calm a ≡ true → is_quiet r ≡ true
     → is_quiet s ≡ true → answer a (e ++ RParen ∷ r) ≡ answer a (e ++ RParen ∷ s)
 calm_same (starts k) [] r s c p q = refl
 calm_same (starts k) (x ∷ e) r s c p q = refl
@@ -103,7 +97,7 @@ calm_same (opposite a) e r s c p q = ap not (calm_same a e r s c p q)
 calm_same (always b) e r s c p q = refl
 
 -- rests that close the group are alike for every question
-calm_alike : (a : Asks) (e r s : List Tok) → is_quiet r ≡ true → is_quiet s ≡ true
+calm_alike : (a : Asks) (e r s : List Token) → is_quiet r ≡ true → is_quiet s ≡ true
     → Alike a (e ++ RParen ∷ r) (e ++ RParen ∷ s)
 calm_alike nothing e r s p q = tt
 calm_alike (ask b test) e r s p q = λ k. sym (calm_same test.asks e r s test.calm p q) ∙ k
@@ -115,6 +109,6 @@ calm_alike everything e r s p q = λ d b test k.
     rw (← append_assoc d e (RParen ∷ s)) (sym (calm_same test.asks (d ++ e) r s test.calm p q)
     ∙ (rw (append_assoc d e (RParen ∷ r)) k))
 
-pub closed_alike : (a : Asks) (r s : List Tok) → is_quiet r ≡ true → is_quiet s ≡ true
+pub closed_alike : (a : Asks) (r s : List Token) → is_quiet r ≡ true → is_quiet s ≡ true
     → Alike a (RParen ∷ r) (RParen ∷ s)
 closed_alike a r s p q = calm_alike a [] r s p q

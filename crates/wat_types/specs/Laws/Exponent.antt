@@ -1,12 +1,7 @@
 -- Laws: powers of two and their exponents.
-use Rattle.std.specs.Prelude.{◌≡◌, ℕ, zero, suc, ◌*◌, ◌^◌, ◌<◌, ◌≤◌, ◌==◌, true, false}
-use Rattle.std.specs.Prelude.{if◌then◌else◌, Option, Some, None, refl}
-use Rattle.std.proofs.Common.{ap, arith, sym, ◌∙◌, subst}
-use Rattle.std.proofs.Math.Pow.{pow_mono}
+use Rattle.std.proofs.Common.{◌≡◌, ℕ, zero, suc, ◌*◌, ◌^◌, ◌<◌, ◌≤◌, ◌==◌, true, false, if◌then◌else◌, Option, Some, None, refl, ap, arith, sym, ◌∙◌, subst}
 use Rattle.std.proofs.lemmas.Nat.{pow_pos}
-use Rattle.std.specs.Cmp.{unsigned_Decides}
-use Rattle.wat_tokens.specs.Laws.Production.{by_test}
-use Rattle.wat_tokens.specs.Laws.Numbers.{apart, doubles}
+use Rattle.wat_tokens.specs.Laws.Prelude.{pow_mono, unsigned_Decides, by_test, apart, doubles}
 use Rattle.wat_types.specs.Exponent.{exponent_below, exponent, IsTwoTo}
 
 pub equal : (m n : ℕ) → (m == n) ≡ true → m ≡ n

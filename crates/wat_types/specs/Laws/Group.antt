@@ -1,6 +1,5 @@
 -- Laws: the groups of a function type.
-use Rattle.std.specs.Prelude.{◌≤◌, Bool}
-use Rattle.std.proofs.Common.{lit≤}
+use Rattle.std.proofs.Common.{◌≤◌, Bool, lit≤}
 use Rattle.wat_tokens.specs.NameAnnotation.{name_annotation}
 use Rattle.wat_types.specs.Heap.{heap_type, abstract_heap_type}
 use Rattle.wat_types.specs.Reference.{ref_type, shorthand}

@@ -1,6 +1,5 @@
 -- Laws: value types.
-use Rattle.std.specs.Prelude.{◌≤◌}
-use Rattle.std.proofs.Common.{lit≤}
+use Rattle.std.proofs.Common.{◌≤◌, lit≤}
 use Rattle.wat_types.specs.Heap.{heap_type, abstract_heap_type}
 use Rattle.wat_types.specs.Reference.{ref_type, shorthand}
 use Rattle.wat_types.specs.Value.{val_type}

@@ -1,7 +1,5 @@
-use Rattle.std.proofs.Common.{◌≡◌, ◌++◌, map, take}
-use Rattle.std.specs.List.{filter}
-use Rattle.std.specs.String.{string_bytes}
-use Rattle.wat.specs.Commands.{is_file}
+use Rattle.std.specs.Prelude.{◌≡◌, ◌++◌, map, take}
+use Rattle.wat.specs.Prelude.{filter, string_bytes, is_file}
 use Rattle.wat.proofs.command.add_files.Given as goal
 
 -- the files among the words so far were added

@@ -1,7 +1,5 @@
-use Rattle.std.proofs.Common.{◌≡◌, ◌+◌, drop, map}
-use Rattle.std.specs.List.{position_or_len}
-use Rattle.std.specs.String.{string_bytes}
-use Rattle.wat.specs.Commands.{is_end}
+use Rattle.std.specs.Prelude.{◌≡◌, ◌+◌, drop, map}
+use Rattle.wat.specs.Prelude.{position_or_len, string_bytes, is_end}
 use Rattle.wat.proofs.command.end_of_options.Given as goal
 
 -- no word so far ends the options

@@ -1,4 +1,4 @@
-use Rattle.std.proofs.Common.{◌≡◌, drop, map}
+use Rattle.std.specs.Prelude.{◌≡◌, drop, map}
 use Rattle.std.specs.String.{string_bytes}
 use Rattle.wat.specs.Commands.{has_word}
 use Rattle.wat.proofs.command.has_word.Given as goal

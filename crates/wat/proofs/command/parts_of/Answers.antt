@@ -1,7 +1,6 @@
 use Rattle.std.proofs.Common.{sym, ap, ◌∙◌, drop, map}
 use Rattle.std.proofs.lemmas.List.{nil_from_length}
-use Rattle.std.specs.String.{string_bytes}
-use Rattle.wat.specs.Commands.{is_end}
+use Rattle.wat.specs.Prelude.{string_bytes, is_end}
 use Rattle.wat.proofs.Words.{after_is, end_within}
 use Rattle.wat.proofs.command.parts_of.Goals as goal
 

@@ -1,6 +1,5 @@
-use Rattle.std.proofs.Common.{◌≡◌, ◌+◌, drop, map}
-use Rattle.std.specs.List.{position_or_len}
-use Rattle.std.specs.String.{string_bytes}
+use Rattle.std.specs.Prelude.{◌≡◌, ◌+◌, drop, map}
+use Rattle.wat.specs.Prelude.{position_or_len, string_bytes}
 use Rattle.wat.specs.Commands.{is_unknown}
 use Rattle.wat.proofs.command.unknown_option.Given as goal
 

@@ -1,5 +1,4 @@
-use Rattle.std.proofs.Common.{subst}
-use Rattle.std.specs.Prelude.{IsTrue, string_bytes}
+use Rattle.std.proofs.Common.{subst, IsTrue, string_bytes}
 use Rattle.wat.specs.Directories.{are_wanted, is_wanted}
 use Rattle.wat.specs.declared.directory.Wanted.{Wanted}
 use Rattle.wat.proofs.Words.{all_moved}

@@ -1,6 +1,6 @@
 use Rattle.std.proofs.Common.{◌+◌, [], refl, ap, sym, ◌++◌}
-use Rattle.std.specs.String.{string_bytes}
 use Rattle.std.proofs.KnownBytes.{Appends-nil, Appends-trans}
+use Rattle.std.specs.String.{string_bytes}
 use Rattle.wat.specs.Runs.{none}
 use Rattle.wat.proofs.Answering.{on_err_always, part_of_more, answers_more}
 use Rattle.wat.proofs.run.run.Goals as goal

@@ -1,7 +1,5 @@
-use Rattle.std.proofs.Common.{◌≡◌, ℕ, List, map, take}
-use Rattle.std.specs.String.{string_bytes}
-use Rattle.std.specs.Io.KnownBytes.{Appends}
-use Rattle.wat.specs.Runs.{AnswersNames}
+use Rattle.std.specs.Prelude.{◌≡◌, ℕ, List, map, take}
+use Rattle.wat.specs.Prelude.{string_bytes, Appends, AnswersNames}
 use Rattle.wat.proofs.run.run.Given as goal
 
 -- the answers for the names so far were written

@@ -1,9 +1,8 @@
 use Rattle.std.proofs.Common.{◌++◌, ◌∷◌, [], length, ap, ◌∙◌}
-use Rattle.wat_c.specs.Faults.{notice_words, record_of, records_of}
+use Rattle.wat_c.specs.Prelude.{notice_words, record_of, records_of, Notice}
 use Rattle.wat_c.specs.declared.fault.WatFault.{WatFault}
 use Rattle.wat_c.proofs.Records.{one_more, words_more}
 use Rattle.wat_c.proofs.fault.records_of.Goals as goal
-use Rattle.wat_text.specs.declared.notice.Notice.{Notice}
 
 pub loop-notice-init : goal.loop-notice-init
 unfolding records_of

@@ -1,4 +1,4 @@
-use Rattle.std.proofs.Common.{◌≡◌, take}
+use Rattle.std.specs.Prelude.{◌≡◌, take}
 use Rattle.wat_c.specs.Faults.{records_of, words_of}
 use Rattle.wat_c.proofs.fault.records_of.Given as goal
 

@@ -1,6 +1,5 @@
-use Rattle.std.proofs.Common.{◌≡◌, ◌≤◌, drop}
-use Rattle.wat_lexer.specs.View.{placed}
-use Rattle.wat_core.specs.Visible.{closing}
+use Rattle.std.specs.Prelude.{◌≡◌, ◌≤◌, drop}
+use Rattle.wat_core.specs.Prelude.{placed, closing}
 use Rattle.wat_core.proofs.module_group.closing.Given as goal
 
 abbrev pub invariant-loop-i : goal.invariant-loop-i

@@ -1,7 +1,6 @@
-use Rattle.std.proofs.Common.{◌≡◌, ◌≤◌, ◌+◌, [], arith, rules, drop, length}
-use Rattle.std.specs.Prelude.{None}
+use Rattle.std.proofs.Common.{◌≡◌, ◌≤◌, ◌+◌, [], arith, rules, drop, length, None}
 use Rattle.wat_lexer.specs.View.{placed}
-use Rattle.wat_core.proofs.Places.{group_found, not_next, past}
+use Rattle.wat_core.proofs.AtIndex.{group_found, not_next, past}
 use Rattle.wat_core.proofs.module_group.next_group.Goals as goal
 
 pub returns-then-not-opens_at-clause-next : goal.returns-then-not-opens_at-clause-next

@@ -1,4 +1,4 @@
-use Rattle.std.proofs.Common.{drop}
+use Rattle.std.specs.Prelude.{drop}
 use Rattle.wat_lexer.specs.View.{placed}
 use Rattle.wat_core.proofs.Heads.{no_id, one_id}
 use Rattle.wat_core.proofs.module_head.behind_id.Goals as goal

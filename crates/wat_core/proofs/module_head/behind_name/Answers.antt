@@ -1,8 +1,7 @@
-use Rattle.std.proofs.Common.{◌∙◌, drop, arith}
-use Rattle.std.specs.Prelude.{None}
+use Rattle.std.proofs.Common.{◌∙◌, drop, arith, None}
 use Rattle.wat_lexer.specs.View.{placed}
 use Rattle.wat_core.proofs.Heads.{no_name, one_name}
-use Rattle.wat_core.proofs.Places.{past}
+use Rattle.wat_core.proofs.AtIndex.{past}
 use Rattle.wat_core.proofs.module_head.behind_name.Goals as goal
 
 pub returns-then-not-name_at-clause-value : goal.returns-then-not-name_at-clause-value

@@ -1,5 +1,4 @@
-use Rattle.std.proofs.Common.{◌∙◌, sym, ap, arith, drop, ℕ}
-use Rattle.std.specs.Prelude.{Some}
+use Rattle.std.proofs.Common.{◌∙◌, sym, ap, arith, drop, ℕ, Some}
 use Rattle.wat_lexer.specs.View.{placed}
 use Rattle.wat_core.proofs.Heads.{no_close, behind_close, first_past, first_here}
 use Rattle.wat_core.proofs.module_head.wrong_end.Goals as goal

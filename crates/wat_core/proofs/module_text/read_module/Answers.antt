@@ -1,9 +1,6 @@
 use Rattle.std.proofs.Common.{◌≡◌, [], ◌∷◌, rules}
-use Rattle.wat_core.specs.Module.{ModuleTy, module_view}
-use Rattle.wat_core.specs.Text.{SpellsModule}
+use Rattle.wat_core.specs.Prelude.{ModuleModel, module_view, SpellsModule, Memory, RParen}
 use Rattle.wat_core.proofs.InTheGroup.{opened, module_found, module_stands, module_closes, passed_on, passed_only}
-use Rattle.wat_tokens.specs.Error.{Memory}
-use Rattle.wat_tokens.specs.Token.{RParen}
 use Rattle.wat_core.proofs.module_text.read_module.Goals as goal
 
 pub returns-in_err-module-clause-only : goal.returns-in_err-module-clause-only
@@ -12,7 +9,7 @@ returns-in_err-module-clause-only c =
     let q = c.open.new.self in
     let e = c.parse.new.parser in
     let o = opened text c.in_ok-parser.parser q _ c.in_ok-parser.ensures.fresh c.in_ok-open.ensures.reads.exact c.in_ok-open.ensures.position c.in_ok-open.ensures.reads.settings.0 in
-    let only : (m : ModuleTy) → SpellsModule text m → c.in_err-module.field-0.0.fault ≡ Memory = λ m s. module_stands text q e o m c.one_cut.ensures s (λ d l d_is spells. (c.in_err-module.ensures.reads.accepts m d l d_is spells).0) in
+    let only : (m : ModuleModel) → SpellsModule text m → c.in_err-module.field-0.0.fault ≡ Memory = λ m s. module_stands text q e o m c.one_cut.ensures s (λ d l d_is spells. (c.in_err-module.ensures.reads.accepts m d l d_is spells).0) in
     search (rules, only)
 
 pub returns-clause-found : goal.returns-clause-found

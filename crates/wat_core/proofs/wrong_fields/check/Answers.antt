@@ -1,4 +1,4 @@
-use Rattle.std.proofs.Common.{refl}
+use Rattle.std.specs.Prelude.{refl}
 use Rattle.wat_core.proofs.Telling.{tells_good, tells_wrong}
 use Rattle.wat_core.proofs.wrong_fields.check.Goals as goal
 

@@ -1,6 +1,5 @@
-use Rattle.std.proofs.Common.{◌-◌, ◌≤◌, List, length, drop}
-use Rattle.wat_lexer.specs.View.{placed}
-use Rattle.wat_core.specs.WrongFields.{IsField, Tells}
+use Rattle.std.specs.Prelude.{◌-◌, ◌≤◌, List, length, drop}
+use Rattle.wat_core.specs.Prelude.{placed, IsField, Tells}
 use Rattle.wat_core.specs.declared.module_group.Group.{Group}
 use Rattle.wat_core.proofs.Telling.{Before}
 use Rattle.wat_core.proofs.wrong_fields.check_all.Given as goal

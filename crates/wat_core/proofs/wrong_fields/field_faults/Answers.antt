@@ -1,9 +1,6 @@
-use Rattle.std.proofs.Common.{refl, [], subst, length, List, drop}
-use Rattle.std.specs.Prelude.{None}
-use Rattle.wat_lexer.specs.Token.{Placed}
-use Rattle.wat_lexer.specs.View.{placed}
-use Rattle.wat_core.specs.ModuleGroups.{GroupsTo, headless, headed}
-use Rattle.wat_core.specs.ModuleHead.{wrong_end}
+use Rattle.std.proofs.Common.{refl, [], subst, length, List, drop, None}
+use Rattle.wat_core.specs.Prelude.{Placed, placed, GroupsTo, wrong_end}
+use Rattle.wat_core.specs.ModuleGroups.{headless, headed}
 use Rattle.wat_core.proofs.Telling.{tells_none}
 use Rattle.wat_core.proofs.wrong_fields.field_faults.Goals as goal
 

@@ -1,7 +1,5 @@
-use Rattle.std.proofs.Common.{◌≡◌, ◌++◌, take}
-use Rattle.std.specs.Prelude.{flat_map}
-use Rattle.std.specs.String.{string_bytes}
-use Rattle.wat_core.specs.Module.{fields_view}
+use Rattle.std.specs.Prelude.{◌≡◌, ◌++◌, take, flat_map}
+use Rattle.wat_core.specs.Prelude.{string_bytes, fields_view}
 use Rattle.wat_example.specs.Listing.{field_lines}
 use Rattle.wat_example.proofs.listing.add_fields.Given as goal
 

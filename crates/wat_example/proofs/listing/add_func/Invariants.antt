@@ -1,7 +1,5 @@
-use Rattle.std.proofs.Common.{◌≡◌, ◌++◌, take}
-use Rattle.std.specs.Prelude.{flat_map, map}
-use Rattle.std.specs.String.{string_bytes}
-use Rattle.wat_core.specs.Func.{func_use_view}
+use Rattle.std.specs.Prelude.{◌≡◌, ◌++◌, take, flat_map, map}
+use Rattle.wat_core.specs.Prelude.{string_bytes, func_use_view}
 use Rattle.wat_example.specs.Listing.{use_line}
 use Rattle.wat_example.proofs.listing.add_func.Given as goal
 

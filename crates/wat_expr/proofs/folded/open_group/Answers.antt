@@ -1,4 +1,4 @@
-use Rattle.std.proofs.Common.{refl, None}
+use Rattle.std.specs.Prelude.{refl, None}
 use Rattle.wat_expr.proofs.Instructions.{opens_behind, no_instruction}
 use Rattle.wat_expr.proofs.folded.open_group.Goals as goal
 

@@ -1,5 +1,4 @@
-use Rattle.wat_expr.specs.FoldedProduction.{folded_instruction}
-use Rattle.wat_expr.specs.ExpressionProduction.{expression}
+use Rattle.wat_expr.specs.Prelude.{folded_instruction, expression}
 use Rattle.wat_expr.proofs.Bounds.{spelled_fewer, folded_fewer}
 use Rattle.wat_expr.proofs.laws.no_more_than_tokens.Goals as goal
 

@@ -1,13 +1,10 @@
 use Rattle.std.proofs.Common.{rules, ◌≡◌, ap, ◌∙◌}
 use Rattle.std.proofs.lemmas.Result.{err_from_is_err_and}
-use Rattle.wat_tokens.specs.Production.{some_of}
-use Rattle.wat_instr.specs.Instruction.{instruction_view}
-use Rattle.wat_expr.specs.Expression.{Expr, expression_view}
-use Rattle.wat_fields.specs.Offset.{head_behind}
-use Rattle.wat_fields.proofs.Heads.{head_read, put_view, never_bare}
+use Rattle.wat_fields.specs.Prelude.{some_of, instruction_view, ExpressionModel, expression_view, head_behind}
+use Rattle.wat_fields.proofs.Heads.{head_read, put_view, never_heapless}
 use Rattle.wat_fields.proofs.Spans.{put_behind, put_alone}
-use Rattle.wat_fields.proofs.offset.read_head_last.Goals as goal
 use Rattle.wat_fields.proofs.offset.read_head_last.Goals.{then-is_empty+in-Some-1, then-is_empty+in-None-1, else-is_empty}
+use Rattle.wat_fields.proofs.offset.read_head_last.Goals as goal
 
 pub returns-clause-spans : goal.returns-clause-spans
 returns-clause-spans c =
@@ -24,7 +21,7 @@ pub returns-in_err-put_last-clause-reads : goal.returns-in_err-put_last-clause-r
 returns-in_err-put_last-clause-reads c =
     let p = err_from_is_err_and c.from_residual-in_err-put_last.result c.from_residual-in_err-put_last.ensures.1 in
     record {
-      exact = rw (p.1, p.2) ((λ not. absurd (not c.in_err-put_last.ensures.memory)), (λ m. never_bare c.args.parser.now.left));
+      exact = rw (p.1, p.2) ((λ not. absurd (not c.in_err-put_last.ensures.memory)), (λ m. never_heapless c.args.parser.now.left));
       counts = search rules;
       cost = search rules;
       settings = search rules;
@@ -42,7 +39,7 @@ returns-clause-reads c =
       | else-is_empty w ↦ put_view x y i (rw w.offset-is at e.instrs) (rw w.offset-is at e.hints)
     ] in
     record {
-      exact = head_read _ _ _ _ c.in_ok-head.ensures.reads.exact ∙ ap (λ (u : Expr). some_of (u, c.read_before_items.new.parser.left)) view;
+      exact = head_read _ _ _ _ c.in_ok-head.ensures.reads.exact ∙ ap (λ (u : ExpressionModel). some_of (u, c.read_before_items.new.parser.left)) view;
       counts = search rules;
       cost = search rules;
       settings = search rules;

@@ -1,11 +1,9 @@
 use Rattle.std.proofs.Common.{rules, ap, subst, ◌≡◌, Bool, not, ◌∷◌, [], ◌++◌, map, sym, ◌∙◌}
 use Rattle.std.proofs.lemmas.Result.{err_from_is_err_and}
-use Rattle.std.proofs.lemmas.List.{map_push}
 use Rattle.std.proofs.lemmas.List.Elements.{All-push, All-nil}
-use Rattle.wat_tokens.specs.Error.{Error}
-use Rattle.wat_tokens.specs.Tests.{more}
+use Rattle.wat_fields.specs.Prelude.{map_push, Error, more}
 use Rattle.wat_tokens.specs.Laws.Cost.{costs_then, quiet_costs}
-use Rattle.wat_tokens.specs.Laws.Loops.{front_of_none, loop_goes_on, loop_ends, loop_fails, not_bare}
+use Rattle.wat_tokens.specs.Laws.Loops.{front_of_none, loop_goes_on, loop_ends, loop_fails, not_heapless}
 use Rattle.wat_tokens.specs.Laws.Refuses.{refused_read}
 use Rattle.wat_fields.proofs.spanned.all_spanned.Goals as goal
 
@@ -50,7 +48,7 @@ returns-in_err-take-clause-reads g c =
     let begun = ap not (sym c.is_empty.ensures ∙ c.values-test.true) in
     let p = err_from_is_err_and c.from_residual.result c.from_residual.ensures.1 in
     record {
-      exact = rw (p.1, p.2) ((λ no. sym c.values.invariant.exact ∙ loop_fails more g.S.Spanned.grammar (map g.S.Spanned.view.of c.values.found.items) c.values.parser.left begun (refused_read g.S.Spanned.view.may_own g.S.Spanned.view.bare _ _ c.in_err-take.ensures.reads.exact no)), (λ m. (not_bare more g.S.Spanned.grammar (map g.S.Spanned.view.of c.values.found.items) c.values.parser.left _ begun c.values.invariant.exact)));
+      exact = rw (p.1, p.2) ((λ no. sym c.values.invariant.exact ∙ loop_fails more g.S.Spanned.grammar (map g.S.Spanned.view.of c.values.found.items) c.values.parser.left begun (refused_read g.S.Spanned.view.may_use_heap g.S.Spanned.view.heapless _ _ c.in_err-take.ensures.reads.exact no)), (λ m. (not_heapless more g.S.Spanned.grammar (map g.S.Spanned.view.of c.values.found.items) c.values.parser.left _ begun c.values.invariant.exact)));
       counts = search rules;
       cost = search (rules, costs_then, quiet_costs);
       settings = search rules;
@@ -61,7 +59,7 @@ returns-in_err-push-clause-reads g c =
     let begun = ap not (sym c.is_empty.ensures ∙ c.values-test.true) in
     let p = err_from_is_err_and c.from_residual-in_err-push.result c.from_residual-in_err-push.ensures.1 in
     record {
-      exact = rw p.1 ((λ no. absurd (no (ap (λ (e : Error). e.fault) p.2))), (λ m. (not_bare more g.S.Spanned.grammar (map g.S.Spanned.view.of c.values.found.items) c.values.parser.left _ begun c.values.invariant.exact)));
+      exact = rw p.1 ((λ no. absurd (no (ap (λ (e : Error). e.fault) p.2))), (λ m. (not_heapless more g.S.Spanned.grammar (map g.S.Spanned.view.of c.values.found.items) c.values.parser.left _ begun c.values.invariant.exact)));
       counts = search rules;
       cost = search (rules, costs_then, quiet_costs);
       settings = search rules;

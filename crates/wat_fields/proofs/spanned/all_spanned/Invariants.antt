@@ -1,10 +1,6 @@
-use Rattle.std.proofs.Common.{◌≡◌, length}
-use Rattle.std.specs.Prelude.{map, All, ◌≤◌, ◌+◌}
+use Rattle.std.specs.Prelude.{◌≡◌, length, map, All, ◌≤◌, ◌+◌}
+use Rattle.wat_links.specs.Prelude.{Carries, SameSettings, after_front, many_reads, more}
 use Rattle.wat_tokens.specs.Cost.{Costs}
-use Rattle.wat_tokens.specs.Counts.{Carries, SameSettings}
-use Rattle.wat_tokens.specs.Many.{after_front}
-use Rattle.wat_tokens.specs.ManySpells.{many_reads}
-use Rattle.wat_tokens.specs.Tests.{more}
 use Rattle.wat_fields.proofs.spanned.all_spanned.Given as goal
 
 abbrev pub invariant-values : goal.invariant-values

@@ -1,12 +1,10 @@
-use Rattle.std.proofs.Common.{◌≡◌, arith, ℕ, List}
-use Rattle.std.specs.Prelude.{string_bytes}
-use Rattle.wat_lexer.specs.Cut.{IsCut, cutting}
-use Rattle.wat_lexer.specs.Token.{Placed, tokens_of}
-use Rattle.wat_lexer.specs.Laws.Fronts as fronts
-use Rattle.wat_format.specs.Parts.{SameButSpaces}
+use Rattle.std.proofs.Common.{string_bytes, ◌≡◌, arith, ℕ, List}
+use Rattle.wat_format.specs.Prelude.{IsCut, Placed, tokens_of, SameButSpaces}
+use Rattle.wat_lexer.specs.Cut.{cutting}
 use Rattle.wat_format.proofs.Cutting.{same_cut}
-use Rattle.wat_format.proofs.format.format.Goals as goal
 use Rattle.wat_format.proofs.format.format.Goals.{then-written-gt0+in-Ok-cut, else-written-gt0}
+use Rattle.wat_lexer.specs.Laws.Fronts as fronts
+use Rattle.wat_format.proofs.format.format.Goals as goal
 
 both_cut : (text answer : List ℕ) (ts : List Placed) → IsCut text ts → SameButSpaces text answer → (vs : List Placed) × (us : List Placed) × IsCut text vs × IsCut answer us × (tokens_of us ≡ tokens_of vs)
 both_cut text answer ts k h = let (us, j, same) = same_cut text answer ts h k in (ts, us, k, j, same)

@@ -1,12 +1,11 @@
 use Rattle.std.proofs.Common.{◌≡◌, ◌∙◌, [], drop, refl, arith, sym}
-use Rattle.std.proofs.Math.ListN.{drop_of_length-le}
-use Rattle.std.proofs.lemmas.Str.{IsCharBoundary-start}
+use Rattle.wat_lexer.specs.Laws.Prelude.{drop_of_length-le, IsCharBoundary-start}
 use Rattle.wat_format.proofs.Blanks.{blanks_found, blanks_boundary, no_space_at, own_blanks}
 use Rattle.wat_format.proofs.Found.{edge_boundary}
 use Rattle.wat_format.proofs.Gaps.{block_followed}
 use Rattle.wat_format.proofs.SoFar.{at_start, over_blanks, piece_written, at_end, with_line, closed_end, wrong_here}
-use Rattle.wat_format.proofs.format.write.Goals as goal
 use Rattle.wat_format.proofs.format.write.Goals.{then-end-gt0+in_ok-push_str-2, else-end-gt0}
+use Rattle.wat_format.proofs.format.write.Goals as goal
 
 pub pieces-init : goal.pieces-init
 pieces-init c = record {

@@ -1,7 +1,5 @@
-use Rattle.std.proofs.Common.{◌-◌, ◌≤◌, length, drop}
-use Rattle.std.specs.Prelude.{string_bytes, vec_len}
-use Rattle.std.specs.Str.{IsCharBoundary}
-use Rattle.wat_format.specs.Shapes.{is_opening, Follows}
+use Rattle.std.specs.Prelude.{string_bytes, vec_len, ◌-◌, ◌≤◌, length, drop}
+use Rattle.wat_format.specs.Prelude.{IsCharBoundary, is_opening, Follows}
 use Rattle.wat_format.proofs.SoFar.{SoFar}
 use Rattle.wat_format.proofs.format.write.Given as goal
 

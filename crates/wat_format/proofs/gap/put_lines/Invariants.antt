@@ -1,5 +1,4 @@
-use Rattle.std.proofs.Common.{◌≡◌, ◌++◌}
-use Rattle.std.specs.Prelude.{replicate, string_bytes}
+use Rattle.std.specs.Prelude.{◌≡◌, ◌++◌, replicate, string_bytes}
 use Rattle.wat_format.proofs.gap.put_lines.Given as goal
 
 abbrev pub invariant-turns : goal.invariant-turns

@@ -1,6 +1,5 @@
 use Rattle.std.proofs.Common.{ap, sym, ◌∙◌, length}
-use Rattle.wat_lexer.specs.Token.{tokens_of}
-use Rattle.wat_lexer.specs.Laws.Fronts.{one_cut}
+use Rattle.wat_format.specs.Prelude.{tokens_of, one_cut}
 use Rattle.wat_format.proofs.Reading.{reads_cuts}
 use Rattle.wat_format.proofs.OneReading as reading
 use Rattle.wat_format.proofs.laws.one_reading.Goals as goal

@@ -1,4 +1,4 @@
-use Rattle.std.proofs.Common.{◌-◌, ◌≤◌, length}
+use Rattle.std.specs.Prelude.{◌-◌, ◌≤◌, length}
 use Rattle.wat_format.proofs.layout.ends_in_front.Given as goal
 
 abbrev pub invariant-words : goal.invariant-words

@@ -1,4 +1,4 @@
-use Rattle.std.proofs.Common.{◌-◌, ◌≤◌, length}
+use Rattle.std.specs.Prelude.{◌-◌, ◌≤◌, length}
 use Rattle.wat_format.proofs.layout.tabs_end.Given as goal
 
 abbrev pub invariant-loop-i : goal.invariant-loop-i

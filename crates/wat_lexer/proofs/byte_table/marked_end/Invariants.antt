@@ -1,5 +1,4 @@
-use Rattle.std.proofs.Common.{◌≡◌, ◌-◌, ◌≤◌, length, get_or}
-use Rattle.std.specs.Prelude.{true, false}
+use Rattle.std.specs.Prelude.{◌≡◌, ◌-◌, ◌≤◌, length, get_or, true, false}
 use Rattle.wat_lexer.proofs.Tables.{Below}
 use Rattle.wat_lexer.proofs.byte_table.marked_end.Given as goal
 

@@ -1,6 +1,5 @@
 use Rattle.std.proofs.Common.{arith, subst, ◌≡◌, ◌+◌, ◌-◌}
-use Rattle.std.specs.Str.{IsCharBoundary}
-use Rattle.std.proofs.lemmas.Str.{IsCharBoundary-after_ascii}
+use Rattle.wat_lexer.specs.Laws.Prelude.{IsCharBoundary, IsCharBoundary-after_ascii}
 use Rattle.wat_lexer.proofs.class.part.Goals as goal
 
 pub range-requires-clause-end_boundary : goal.range-requires-clause-end_boundary

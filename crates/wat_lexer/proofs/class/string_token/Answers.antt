@@ -1,9 +1,8 @@
 use Rattle.std.proofs.Common.{arith}
-use Rattle.std.proofs.lemmas.Grind.{common_steps}
-use Rattle.std.proofs.lemmas.Bool.Decides.{nat_tests}
+use Rattle.wat_lexer.specs.Laws.Prelude.{common_steps, nat_tests}
 use Rattle.wat_lexer.proofs.Whole.{class_by, quote_first}
-use Rattle.wat_lexer.proofs.class.string_token.Goals as goal
 use Rattle.wat_lexer.proofs.class.string_token.Goals.{else-behind-via-then-behind+else-first-eq64, else-behind-via-else-behind}
+use Rattle.wat_lexer.proofs.class.string_token.Goals as goal
 
 pub returns-then-quote-eq0 : goal.returns-then-quote-eq0
 returns-then-quote-eq0 c = grind (arith, common_steps, nat_tests, class_by c.args.behind _ _ c.requires.prefix (quote_first _ _ c.requires.a_string))

@@ -1,4 +1,4 @@
-use Rattle.std.proofs.Common.{get_or}
+use Rattle.std.specs.Prelude.{get_or}
 use Rattle.wat_lexer.proofs.Commons.{no_run_byte}
 use Rattle.wat_lexer.proofs.common.ends_run.Goals as goal
 

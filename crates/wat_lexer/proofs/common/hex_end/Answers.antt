@@ -1,5 +1,4 @@
-use Rattle.std.proofs.Common.{arith, ◌≡◌, ◌+◌, ◌-◌, get_or, sym, ◌∙◌}
-use Rattle.std.specs.Prelude.{true}
+use Rattle.std.proofs.Common.{arith, ◌≡◌, ◌+◌, ◌-◌, get_or, sym, ◌∙◌, true}
 use Rattle.wat_lexer.specs.Cut.{is_hex}
 use Rattle.wat_lexer.proofs.Commons.{hex_idchars, hex_integer, stops_here}
 use Rattle.wat_lexer.proofs.Tables.{Below, hex_at, idchars_to}

@@ -1,5 +1,4 @@
-use Rattle.std.proofs.Common.{◌+◌, ◌-◌, sym, ◌∙◌}
-use Rattle.std.specs.Prelude.{slice_range}
+use Rattle.std.proofs.Common.{◌+◌, ◌-◌, sym, ◌∙◌, slice_range}
 use Rattle.wat_lexer.proofs.Commons.{plain_content, plain_string_run, stops_here}
 use Rattle.wat_lexer.proofs.common.plain_string_end.Goals as goal
 

@@ -1,6 +1,5 @@
-use Rattle.std.proofs.Common.{◌≡◌, drop}
-use Rattle.wat_lexer.specs.Token.{has_annotation}
-use Rattle.wat_lexer.specs.View.{lying}
+use Rattle.std.specs.Prelude.{◌≡◌, drop}
+use Rattle.wat_lexer.specs.Prelude.{has_annotation, lying}
 use Rattle.wat_lexer.proofs.cut.any_annotation.Given as goal
 
 abbrev pub invariant-loop-one : goal.invariant-loop-one

@@ -1,7 +1,7 @@
 use Rattle.std.proofs.Common.{◌∙◌, sym}
 use Rattle.wat_lexer.specs.Cut.{cutting}
-use Rattle.wat_lexer.specs.Laws.Fronts as fronts
 use Rattle.wat_lexer.proofs.Outcomes.{left_open, no_cut, closed_anyway, told_anyway}
+use Rattle.wat_lexer.specs.Laws.Fronts as fronts
 use Rattle.wat_lexer.proofs.cut.cut.Goals as goal
 
 pub returns-in-Err-clause-fault : goal.returns-in-Err-clause-fault

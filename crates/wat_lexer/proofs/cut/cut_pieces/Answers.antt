@@ -1,11 +1,7 @@
-use Rattle.std.proofs.Common.{arith, ◌≡◌, ap, is_ok, length, length-drop}
-use Rattle.std.specs.Prelude.{◌∷◌, [], ◌++◌, ◌==◌, ◌&&◌, false, nat_lt}
+use Rattle.std.proofs.Common.{arith, ◌≡◌, ap, is_ok, length, length-drop, ◌∷◌, [], ◌++◌, ◌==◌, ◌&&◌, false, nat_lt}
 use Rattle.std.proofs.ResultArms.{chosen}
-use Rattle.std.proofs.lemmas.List.{map-append, length-append}
-use Rattle.wat_lexer.specs.Token.{Entry, has_annotation, is_open}
-use Rattle.wat_lexer.specs.View.{lying, entries_of, found_tok, placed_of, no_skips}
+use Rattle.wat_lexer.specs.Laws.Prelude.{length-append, map-append, Entry, has_annotation, is_open, lying, entries_of, found_tok, placed_of, no_skips, drop_of_length-le}
 use Rattle.wat_lexer.proofs.Entries.{any_put, kept_more, put_few, untold}
-use Rattle.std.proofs.Math.ListN.{drop_of_length-le}
 use Rattle.wat_lexer.proofs.CutSoFar.{over_blank, over_piece, over_token, opened_within, at_end, fault_here, noted_more}
 use Rattle.wat_lexer.proofs.cut.cut_pieces.Goals as goal
 

@@ -1,9 +1,7 @@
-use Rattle.std.proofs.Common.{◌+◌, ◌∙◌, ap, sym, drop}
-use Rattle.std.specs.Prelude.{slice_range}
-use Rattle.wat_lexer.specs.Scan.{TokenTo}
-use Rattle.wat_lexer.specs.Token.{Annotation}
+use Rattle.std.proofs.Common.{◌+◌, ◌∙◌, ap, sym, drop, slice_range}
+use Rattle.wat_lexer.specs.Prelude.{TokenTo, Annotation}
 use Rattle.wat_lexer.proofs.Entries.{plain_found, annotation_found}
-use Rattle.wat_lexer.proofs.Places.{run_token}
+use Rattle.wat_lexer.proofs.FrontAt.{run_token}
 use Rattle.wat_lexer.proofs.cut.plain_run.Goals as goal
 
 pub returns-then-is_annotation_kind-clause-value : goal.returns-then-is_annotation_kind-clause-value

@@ -1,4 +1,4 @@
-use Rattle.std.proofs.Common.{◌+◌, ◌-◌}
+use Rattle.std.specs.Prelude.{◌+◌, ◌-◌}
 use Rattle.wat_lexer.specs.Token.{LParen}
 use Rattle.wat_lexer.proofs.Entries.{word_no_paren}
 use Rattle.wat_lexer.proofs.cut.put_word.Goals as goal

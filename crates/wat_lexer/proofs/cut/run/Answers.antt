@@ -1,8 +1,8 @@
 use Rattle.std.proofs.Common.{arith, ◌≡◌, ◌∙◌, ap, drop, length}
 use Rattle.wat_lexer.specs.Scan.{behind_run, Between, Ends}
 use Rattle.wat_lexer.proofs.Steps.{run_char, run_over}
-use Rattle.wat_lexer.proofs.cut.run.Goals as goal
 use Rattle.wat_lexer.proofs.cut.run.Goals.{else-plain-bytes-via-then-plain-bytes+else-bytes-plain-eq34, else-plain-bytes-via-else-plain-bytes}
+use Rattle.wat_lexer.proofs.cut.run.Goals as goal
 
 pub plain_run-requires-clause-ends : goal.plain_run-requires-clause-ends
 plain_run-requires-clause-ends c =

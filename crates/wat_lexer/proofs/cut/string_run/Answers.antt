@@ -1,12 +1,10 @@
-use Rattle.std.proofs.Common.{arith, ◌≡◌, ◌+◌, ◌-◌, ◌∙◌, ap, drop, length, refl, sym}
-use Rattle.std.specs.Prelude.{Some, false, slice_range}
-use Rattle.wat_lexer.specs.Scan.{behind_run, run_front, class, TokenTo, Between, Ends}
-use Rattle.wat_lexer.specs.View.{view, is_paren}
-use Rattle.wat_lexer.proofs.Places.{run_first, run_token}
+use Rattle.std.proofs.Common.{arith, ◌≡◌, ◌+◌, ◌-◌, ◌∙◌, ap, drop, length, refl, sym, Some, false, slice_range}
+use Rattle.wat_lexer.specs.Prelude.{behind_run, run_front, class, TokenTo, Between, Ends, view, is_paren}
+use Rattle.wat_lexer.proofs.FrontAt.{run_first, run_token}
 use Rattle.wat_lexer.proofs.Steps.{run_quote, rest_found}
 use Rattle.wat_lexer.proofs.Whole.{whole_here, class_more, class_string}
-use Rattle.wat_lexer.proofs.cut.string_run.Goals as goal
 use Rattle.wat_lexer.proofs.cut.string_run.Goals.{then-end-after-2+in_ok-content, else-end-after-2}
+use Rattle.wat_lexer.proofs.cut.string_run.Goals as goal
 
 pub part-run-requires-clause-first : goal.part-run-requires-clause-first
 part-run-requires-clause-first c = run_first c.args.at c.args.quote c.args.text.now c.requires.order c.requires.quote c.requires.mark c.requires.plain

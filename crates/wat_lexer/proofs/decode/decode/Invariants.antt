@@ -1,7 +1,5 @@
-use Rattle.std.proofs.Common.{◌≡◌, ◌-◌, ◌≤◌, ◌<◌, length, drop, get_or}
-use Rattle.std.specs.Prelude.{false}
-use Rattle.wat_lexer.specs.Cut.{is_raw}
-use Rattle.wat_lexer.specs.Scan.{string_at, with_front, Raw}
+use Rattle.std.specs.Prelude.{◌≡◌, ◌-◌, ◌≤◌, ◌<◌, length, drop, get_or, false}
+use Rattle.wat_lexer.specs.Prelude.{is_raw, string_at, with_front, Raw}
 use Rattle.wat_lexer.proofs.decode.decode.Given as goal
 
 abbrev pub invariant-loop-escaped : goal.invariant-loop-escaped

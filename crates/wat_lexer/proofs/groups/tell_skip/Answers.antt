@@ -1,5 +1,4 @@
-use Rattle.std.proofs.Common.{arith, ◌+◌, ◌-◌, ap, sym, ◌∙◌}
-use Rattle.std.specs.Prelude.{true, false}
+use Rattle.std.proofs.Common.{arith, ◌+◌, ◌-◌, ap, sym, ◌∙◌, true, false}
 use Rattle.wat_lexer.proofs.Skips.{skips_later}
 use Rattle.wat_lexer.proofs.Closing.{marked_same, marked_skips, second_within, second_annotates}
 use Rattle.wat_lexer.proofs.groups.tell_skip.Goals as goal

@@ -1,6 +1,6 @@
 use Rattle.std.proofs.Common.{◌∙◌, arith, sym, drop, length-drop}
-use Rattle.wat_lexer.specs.View.{toks}
-use Rattle.wat_lexer.proofs.Skips.{hidden_count_within, hidden_count_none, visible_at, visible_same, none_hidden}
+use Rattle.wat_lexer.specs.Laws.Prelude.{entry_tokens, hidden_count_none}
+use Rattle.wat_lexer.proofs.Skips.{hidden_count_within, visible_at, visible_same, none_hidden}
 use Rattle.wat_lexer.proofs.hidden.hidden_count.Goals as goal
 
 pub returns-then-begins_hidden_group-clause-value : goal.returns-then-begins_hidden_group-clause-value
@@ -13,7 +13,7 @@ pub returns-then-begins_hidden_group-clause-first : goal.returns-then-begins_hid
 returns-then-begins_hidden_group-clause-first c = visible_at c.args.known (drop c.args.at c.args.tokens.now) c.skip_in_front.result (returns-then-begins_hidden_group-clause-value c)
 
 pub returns-else-begins_hidden_group-clause-first : goal.returns-else-begins_hidden_group-clause-first
-returns-else-begins_hidden_group-clause-first c = visible_at c.args.known (drop c.args.at c.args.tokens.now) 0 (sym (hidden_count_none c.args.known (toks (drop c.args.at c.args.tokens.now)) (sym c.begins_hidden_group.ensures.value ∙ c.if-begins_hidden_group.false)))
+returns-else-begins_hidden_group-clause-first c = visible_at c.args.known (drop c.args.at c.args.tokens.now) 0 (sym (hidden_count_none c.args.known (entry_tokens (drop c.args.at c.args.tokens.now)) (sym c.begins_hidden_group.ensures.value ∙ c.if-begins_hidden_group.false)))
 
 pub returns-then-begins_hidden_group-clause-same : goal.returns-then-begins_hidden_group-clause-same
 returns-then-begins_hidden_group-clause-same c = visible_same c.args.known (drop c.args.at c.args.tokens.now) c.skip_in_front.result (returns-then-begins_hidden_group-clause-value c)

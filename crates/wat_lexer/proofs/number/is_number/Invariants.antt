@@ -1,5 +1,4 @@
-use Rattle.std.proofs.Common.{◌≡◌, ◌-◌, ◌≤◌, length, drop}
-use Rattle.std.specs.Prelude.{is_some, false}
+use Rattle.std.specs.Prelude.{◌≡◌, ◌-◌, ◌≤◌, length, drop, is_some, false}
 use Rattle.wat_lexer.specs.Number.{read}
 use Rattle.wat_lexer.proofs.number.is_number.Given as goal
 

@@ -1,4 +1,4 @@
-use Rattle.std.proofs.Common.{◌≡◌, ◌-◌, ◌≤◌, length, drop}
+use Rattle.std.specs.Prelude.{◌≡◌, ◌-◌, ◌≤◌, length, drop}
 use Rattle.wat_lexer.specs.Number.{read, number, up_to}
 use Rattle.wat_lexer.proofs.number.number_up_to.Given as goal
 

@@ -1,11 +1,9 @@
-use Rattle.std.proofs.Common.{arith, ◌≡◌, ◌+◌, ◌-◌, ◌∙◌, sym, drop, get_or}
-use Rattle.std.specs.Prelude.{true}
-use Rattle.std.proofs.lemmas.Grind.{common_steps}
-use Rattle.wat_lexer.specs.Scan.{behind_comment}
+use Rattle.std.proofs.Common.{arith, ◌≡◌, ◌+◌, ◌-◌, ◌∙◌, sym, drop, get_or, true}
+use Rattle.wat_lexer.specs.Laws.Prelude.{common_steps, behind_comment}
 use Rattle.wat_lexer.proofs.Steps.{comment_step}
 use Rattle.wat_lexer.proofs.Tables.{Below, in_comment, comment_at, comment_to}
-use Rattle.wat_lexer.proofs.scan.comment_end.Goals as goal
 use Rattle.wat_lexer.proofs.scan.comment_end.Goals.{else-a-eq40-via-then-a-eq40+else-b-eq59, else-a-eq40-via-else-a-eq40, else-a-eq59-via-then-a-eq59+else-b-eq41, else-a-eq59-via-else-a-eq59}
+use Rattle.wat_lexer.proofs.scan.comment_end.Goals as goal
 
 pub loop-i-preserved : goal.loop-i-preserved
 loop-i-preserved c =

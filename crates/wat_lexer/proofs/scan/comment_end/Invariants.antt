@@ -1,4 +1,4 @@
-use Rattle.std.proofs.Common.{◌≡◌, ◌-◌, ◌≤◌, length, drop}
+use Rattle.std.specs.Prelude.{◌≡◌, ◌-◌, ◌≤◌, length, drop}
 use Rattle.wat_lexer.specs.Scan.{behind_comment}
 use Rattle.wat_lexer.proofs.scan.comment_end.Given as goal
 

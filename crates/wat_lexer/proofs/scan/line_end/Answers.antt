@@ -1,5 +1,4 @@
-use Rattle.std.proofs.Common.{arith, ◌-◌, ◌≡◌, ◌∙◌, sym, get_or}
-use Rattle.std.specs.Prelude.{true}
+use Rattle.std.proofs.Common.{arith, ◌-◌, ◌≡◌, ◌∙◌, sym, get_or, true}
 use Rattle.wat_lexer.proofs.Tables.{Below, in_line, line_at, lines_to, no_line}
 use Rattle.wat_lexer.proofs.scan.line_end.Goals as goal
 

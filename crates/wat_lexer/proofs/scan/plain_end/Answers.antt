@@ -1,5 +1,4 @@
-use Rattle.std.proofs.Common.{arith, ◌-◌, ◌≡◌, ◌∙◌, sym, get_or}
-use Rattle.std.specs.Prelude.{true}
+use Rattle.std.proofs.Common.{arith, ◌-◌, ◌≡◌, ◌∙◌, sym, get_or, true}
 use Rattle.wat_lexer.specs.Bytes.{is_idchar}
 use Rattle.wat_lexer.proofs.Tables.{Below, idchar_at, idchars_to}
 use Rattle.wat_lexer.proofs.scan.plain_end.Goals as goal

@@ -1,4 +1,4 @@
-use Rattle.std.proofs.Common.{◌≡◌, ◌-◌, ◌≤◌, ◌<◌, length, drop, get_or}
+use Rattle.std.specs.Prelude.{◌≡◌, ◌-◌, ◌≤◌, ◌<◌, length, drop, get_or}
 use Rattle.wat_lexer.specs.Scan.{behind_run, Between}
 use Rattle.wat_lexer.proofs.scan.run_end.Given as goal
 

@@ -1,5 +1,4 @@
-use Rattle.std.proofs.Common.{arith, ◌-◌, ◌≡◌, ◌∙◌, sym, get_or}
-use Rattle.std.specs.Prelude.{true}
+use Rattle.std.proofs.Common.{arith, ◌-◌, ◌≡◌, ◌∙◌, sym, get_or, true}
 use Rattle.wat_lexer.specs.Bytes.{is_space}
 use Rattle.wat_lexer.proofs.Tables.{Below, space_at, spaces_to, no_spaces}
 use Rattle.wat_lexer.proofs.scan.spaces_end.Goals as goal

@@ -1,5 +1,4 @@
-use Rattle.std.proofs.Common.{◌≡◌, ◌-◌, ◌≤◌, ◌<◌, length, drop}
-use Rattle.std.specs.Prelude.{false}
+use Rattle.std.specs.Prelude.{◌≡◌, ◌-◌, ◌≤◌, ◌<◌, length, drop, false}
 use Rattle.wat_lexer.specs.Scan.{string_at, Digits}
 use Rattle.wat_lexer.proofs.string.code_point.Given as goal
 

@@ -1,5 +1,4 @@
-use Rattle.std.proofs.Common.{arith, ◌-◌, ◌≡◌, ◌∙◌, sym, get_or}
-use Rattle.std.specs.Prelude.{true}
+use Rattle.std.proofs.Common.{arith, ◌-◌, ◌≡◌, ◌∙◌, sym, get_or, true}
 use Rattle.wat_lexer.specs.Cut.{is_raw}
 use Rattle.wat_lexer.proofs.Tables.{Below, raw_at, raw_to}
 use Rattle.wat_lexer.proofs.string.raw_end.Goals as goal

@@ -1,7 +1,5 @@
-use Rattle.std.proofs.Common.{◌≡◌, ◌-◌, ◌≤◌, ◌<◌, length, drop, get_or}
-use Rattle.std.specs.Prelude.{false}
-use Rattle.wat_lexer.specs.Cut.{is_raw}
-use Rattle.wat_lexer.specs.Scan.{rest_at}
+use Rattle.std.specs.Prelude.{◌≡◌, ◌-◌, ◌≤◌, ◌<◌, length, drop, get_or, false}
+use Rattle.wat_lexer.specs.Prelude.{is_raw, rest_at}
 use Rattle.wat_lexer.proofs.string.string_end.Given as goal
 
 abbrev pub invariant-loop-behind : goal.invariant-loop-behind

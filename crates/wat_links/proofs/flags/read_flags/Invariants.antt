@@ -1,6 +1,5 @@
-use Rattle.std.proofs.Common.{◌≡◌, length}
-use Rattle.std.specs.Prelude.{◌≤◌, ◌+◌}
-use Rattle.wat_tokens.specs.Counts.{Carries, Quiet, SameSettings}
+use Rattle.std.specs.Prelude.{◌≡◌, length, ◌≤◌, ◌+◌}
+use Rattle.wat_tokens.specs.Counts.{Carries, SameSettings, Quiet}
 use Rattle.wat_links.specs.Flags.{symbol_flags}
 use Rattle.wat_links.proofs.FlagList.{flags_from}
 use Rattle.wat_links.proofs.flags.read_flags.Given as goal

@@ -1,5 +1,4 @@
-use Rattle.std.proofs.Common.{◌≡◌, take}
-use Rattle.std.specs.Prelude.{map}
+use Rattle.std.specs.Prelude.{◌≡◌, take, map}
 use Rattle.wat_links.specs.Import.{typed_view, SameAll}
 use Rattle.wat_links.proofs.import.clone_items.Given as goal
 

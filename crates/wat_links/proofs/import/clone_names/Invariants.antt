@@ -1,4 +1,4 @@
-use Rattle.std.proofs.Common.{◌≡◌, take}
+use Rattle.std.specs.Prelude.{◌≡◌, take}
 use Rattle.wat_links.proofs.import.clone_names.Given as goal
 
 abbrev pub invariant-items : goal.invariant-items

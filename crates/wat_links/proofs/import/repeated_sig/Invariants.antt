@@ -1,5 +1,4 @@
-use Rattle.std.proofs.Common.{◌≡◌}
-use Rattle.std.specs.Prelude.{map, replicate}
+use Rattle.std.specs.Prelude.{◌≡◌, map, replicate}
 use Rattle.wat_links.proofs.import.repeated_sig.Given as goal
 
 abbrev pub invariant-copies : goal.invariant-copies

@@ -1,5 +1,4 @@
-use Rattle.std.proofs.Common.{◌≡◌, take}
-use Rattle.std.specs.Prelude.{map}
+use Rattle.std.specs.Prelude.{◌≡◌, take, map}
 use Rattle.wat_links.proofs.import.typed_sigs.Given as goal
 
 abbrev pub invariant-items : goal.invariant-items

@@ -1,5 +1,5 @@
-use Rattle.std.proofs.Common.{◌≡◌, take}
-use Rattle.wat_links.specs.Producers.{entries_view, names_view, field_entries}
+use Rattle.std.specs.Prelude.{◌≡◌, take}
+use Rattle.wat_links.specs.Producers.{names_view, field_entries, entries_view}
 use Rattle.wat_links.proofs.producers.field_entries.Given as goal
 
 abbrev pub invariant-entries : goal.invariant-entries

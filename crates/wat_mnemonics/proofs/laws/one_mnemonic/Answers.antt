@@ -1,5 +1,4 @@
-use Rattle.wat_mnemonics.specs.Laws.Places.{one_word, one_row}
-use Rattle.wat_mnemonics.proofs.RowsBelow.{row_below}
+use Rattle.wat_mnemonics.specs.Laws.TableIndex.{one_word, one_row, row_below}
 use Rattle.wat_mnemonics.proofs.Rows.{each_row}
 use Rattle.wat_mnemonics.proofs.laws.one_mnemonic.Goals as goal
 

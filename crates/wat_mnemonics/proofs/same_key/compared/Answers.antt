@@ -4,8 +4,8 @@ use Rattle.wat_mnemonics.proofs.same_key.compared.Goals as goal
 
 pub returns-then-entry-key-2 : goal.returns-then-entry-key-2
 returns-then-entry-key-2 c =
-    sym (key_less c.args.place c.requires.place c.args.text.now (λ i. omega (arith, c.type_inv.text i)) (omega (arith, c.if-entry-key-2.true, c.requires.key)))
+    sym (key_less c.args.index c.requires.index c.args.text.now (λ i. omega (arith, c.type_inv.text i)) (omega (arith, c.if-entry-key-2.true, c.requires.key)))
 
 pub returns-else-entry-key-2 : goal.returns-else-entry-key-2
 returns-else-entry-key-2 c =
-    sym (key_greater c.args.place c.requires.place c.args.text.now (λ i. omega (arith, c.type_inv.text i)) (omega (arith, c.if-entry-key.false, c.if-entry-key-2.false, c.requires.key)))
+    sym (key_greater c.args.index c.requires.index c.args.text.now (λ i. omega (arith, c.type_inv.text i)) (omega (arith, c.if-entry-key.false, c.if-entry-key-2.false, c.requires.key)))

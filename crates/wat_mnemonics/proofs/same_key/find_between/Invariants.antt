@@ -1,6 +1,5 @@
-use Rattle.std.proofs.Common.{◌≡◌, ◌≤◌, ℕ}
-use Rattle.wat_mnemonics.specs.Halves.{IsWithin, IsFew}
-use Rattle.wat_tokens.specs.Counts.{Carries}
+use Rattle.std.specs.Prelude.{◌≡◌, ◌≤◌, ℕ}
+use Rattle.wat_mnemonics.specs.Prelude.{IsWithin, IsFew, Carries}
 use Rattle.wat_mnemonics.proofs.same_key.find_between.Given as goal
 
 abbrev pub invariant-halves : goal.invariant-halves

@@ -1,7 +1,5 @@
 use Rattle.std.proofs.Common.{sym, subst}
-use Rattle.wat_tokens.specs.Production.{Read}
-use Rattle.wat_expr.specs.Items.{Items}
-use Rattle.wat_expr.specs.Reading.{items_at}
+use Rattle.wat_plain.specs.Prelude.{Read, Items, items_at}
 use Rattle.wat_plain.specs.Found.{Finds}
 use Rattle.wat_plain.proofs.Parts.{items_at_zero, items_at_next, list_open}
 use Rattle.wat_plain.proofs.reading.+reading.Goals as goal

@@ -1,4 +1,4 @@
-use Rattle.std.proofs.Common.{◌+◌, ◌*◌}
+use Rattle.std.specs.Prelude.{◌+◌, ◌*◌}
 use Rattle.wat_plain.proofs.reading.+reading.Given as goal
 
 -- the depth that is left, and in front of its unit how far the function is from `read_at`

@@ -1,4 +1,4 @@
-use Rattle.std.proofs.Common.{◌≡◌, ◌+◌, length}
+use Rattle.std.specs.Prelude.{◌≡◌, ◌+◌, length}
 use Rattle.wat_tokens.specs.Lookup.{in_front}
 use Rattle.wat_plain.proofs.reading.tokens_left.Given as goal
 

@@ -1,7 +1,6 @@
-use Rattle.std.proofs.Common.{◌≡◌, drop}
+use Rattle.std.specs.Prelude.{◌≡◌, drop}
+use Rattle.wat_print.specs.Prelude.{param_label, none_labelled}
 use Rattle.wat_types.specs.Function.{params_view}
-use Rattle.wat_print.specs.Function.{param_label}
-use Rattle.wat_print.specs.Label.{none_labelled}
 use Rattle.wat_print.proofs.function.are_unlabelled.Given as goal
 
 -- the parameters left decide the result

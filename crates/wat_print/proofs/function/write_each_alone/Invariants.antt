@@ -1,8 +1,6 @@
-use Rattle.std.proofs.Common.{drop}
-use Rattle.std.specs.Prelude.{map}
-use Rattle.wat_types.specs.Function.{param_view}
+use Rattle.std.specs.Prelude.{drop, map}
+use Rattle.wat_print.specs.Prelude.{param_view, Left}
 use Rattle.wat_print.specs.Function.{param_alone_form}
-use Rattle.wat_print.specs.Prints.{Left}
 use Rattle.wat_print.proofs.function.write_each_alone.Given as goal
 
 abbrev pub invariant-loop-param : goal.invariant-loop-param

@@ -1,8 +1,5 @@
-use Rattle.std.proofs.Common.{drop}
-use Rattle.std.specs.Prelude.{map}
-use Rattle.wat_types.specs.Function.{param_view}
-use Rattle.wat_print.specs.Function.{param_form}
-use Rattle.wat_print.specs.Prints.{Left}
+use Rattle.std.specs.Prelude.{drop, map}
+use Rattle.wat_print.specs.Prelude.{param_view, param_form, Left}
 use Rattle.wat_print.proofs.function.write_params.Given as goal
 
 abbrev pub invariant-loop-param : goal.invariant-loop-param

@@ -1,7 +1,5 @@
-use Rattle.std.proofs.Common.{refl, false}
-use Rattle.wat_print.specs.Text.{put, blank_page}
-use Rattle.wat_print.specs.Laws.Nesting.{well_formed_cut, well_formed_visible}
-use Rattle.wat_print.specs.Laws.Written.{puts_put}
+use Rattle.std.specs.Prelude.{refl, false}
+use Rattle.wat_print.specs.Laws.Prelude.{put, blank_page, well_formed_cut, well_formed_visible, puts_put}
 use Rattle.wat_print.proofs.laws.text_is_cut.Goals as goal
 
 pub returns-clause-cut : goal.returns-clause-cut

@@ -1,6 +1,5 @@
-use Rattle.std.proofs.Common.{◌≡◌, drop}
-use Rattle.wat_lexer.specs.Bytes.{is_idchar}
-use Rattle.wat_print.specs.Text.{all_are}
+use Rattle.std.specs.Prelude.{◌≡◌, drop}
+use Rattle.wat_print.specs.Prelude.{is_idchar, all_are}
 use Rattle.wat_print.proofs.output.are_idchars.Given as goal
 
 -- the bytes left decide the result

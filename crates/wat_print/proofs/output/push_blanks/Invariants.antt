@@ -1,5 +1,4 @@
-use Rattle.std.proofs.Common.{◌≡◌, ◌++◌, ◌*◌, ◌-◌}
-use Rattle.std.specs.Prelude.{string_bytes}
+use Rattle.std.specs.Prelude.{◌≡◌, ◌++◌, ◌*◌, ◌-◌, string_bytes}
 use Rattle.wat_print.specs.Layout.{blanks}
 use Rattle.wat_print.proofs.output.push_blanks.Given as goal
 

@@ -1,7 +1,6 @@
 use Rattle.std.proofs.Common.{rules, ◌≢◌}
-use Rattle.wat_print.specs.Printed.{may_break, NoneSpells}
+use Rattle.wat_print.specs.Laws.Prelude.{may_break, NoneSpells, on_one_line, reads_back, unspelled}
 use Rattle.wat_print.specs.declared.fault.Refused.TheVariants.{Memory}
-use Rattle.wat_print.specs.Laws.Printed.{on_one_line, reads_back, unspelled}
 use Rattle.wat_print.proofs.printed.print.Goals as goal
 
 pub returns-clause-reads_back : goal.returns-clause-reads_back

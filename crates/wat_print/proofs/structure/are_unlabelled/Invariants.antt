@@ -1,7 +1,6 @@
-use Rattle.std.proofs.Common.{◌≡◌, drop}
+use Rattle.std.specs.Prelude.{◌≡◌, drop}
+use Rattle.wat_print.specs.Prelude.{none_labelled, member_label}
 use Rattle.wat_types.specs.Struct.{members_view}
-use Rattle.wat_print.specs.Label.{none_labelled}
-use Rattle.wat_print.specs.Struct.{member_label}
 use Rattle.wat_print.proofs.structure.are_unlabelled.Given as goal
 
 -- the fields left decide the result

@@ -1,8 +1,5 @@
-use Rattle.std.proofs.Common.{drop}
-use Rattle.std.specs.Prelude.{map}
-use Rattle.wat_types.specs.Struct.{member_view}
-use Rattle.wat_print.specs.Struct.{member_form}
-use Rattle.wat_print.specs.Prints.{Left}
+use Rattle.std.specs.Prelude.{drop, map}
+use Rattle.wat_print.specs.Prelude.{member_view, member_form, Left}
 use Rattle.wat_print.proofs.structure.write_members.Given as goal
 
 abbrev pub invariant-loop-field : goal.invariant-loop-field

@@ -1,8 +1,5 @@
-use Rattle.std.specs.Prelude.{ℕ, true, List}
-use Rattle.std.proofs.Common.{◌∙◌, subst, sym}
-use Rattle.wat_expr.specs.Expression.{expression_view}
-use Rattle.wat_expr.specs.ExpressionProduction.{expression}
-use Rattle.wat_tokens.specs.Whole.{TextSpells}
+use Rattle.std.proofs.Common.{ℕ, true, List, ◌∙◌, subst, sym}
+use Rattle.wat_expr.specs.Prelude.{expression_view, expression, TextSpells}
 use Rattle.wat_print_instr.proofs.expression.expression_read_again.Goals as goal
 
 pub returns-in-Ok-clause-same : goal.returns-in-Ok-clause-same

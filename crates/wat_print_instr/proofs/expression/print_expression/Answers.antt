@@ -1,13 +1,6 @@
-use Rattle.std.specs.Prelude.{[]}
-use Rattle.std.proofs.Common.{refl, rules, ◌≢◌}
-use Rattle.wat_expr.specs.Expression.{expression_view}
-use Rattle.wat_expr.specs.ExpressionProduction.{expression}
-use Rattle.wat_print.specs.Printed.{may_break, NoneSpells}
-use Rattle.wat_print.specs.declared.fault.Refused.TheVariants.{Memory}
-use Rattle.wat_print.specs.Laws.Printed.{on_one_line, reads_back, unspelled}
-use Rattle.wat_print_instr.specs.ExpressionForm.{spell_expression, printable_expression}
-use Rattle.wat_print_instr.specs.Laws.Expression.{expression_closed, expression_well_formed}
-use Rattle.wat_print_instr.specs.Laws.ExpressionOnly.{expression_only}
+use Rattle.std.proofs.Common.{[], refl, rules, ◌≢◌}
+use Rattle.wat_print_instr.specs.Laws.Prelude.{expression_view, expression, may_break, NoneSpells, Memory, on_one_line, unspelled, spell_expression, printable_expression, expression_closed, expression_well_formed, expression_only}
+use Rattle.wat_print.specs.Laws.Printed.{reads_back}
 use Rattle.wat_print_instr.proofs.expression.print_expression.Goals as goal
 
 pub returns-clause-reads_back : goal.returns-clause-reads_back

@@ -1,10 +1,5 @@
-use Rattle.std.specs.Prelude.{◌++◌, []}
-use Rattle.std.proofs.Common.{◌∙◌}
-use Rattle.wat_instr.specs.Instruction.{instruction_view}
-use Rattle.wat_print.specs.Parts.{spell_option}
-use Rattle.wat_print.specs.Laws.Written.{puts_put, puts_both, put_then}
-use Rattle.wat_print_instr.specs.ExpressionForm.{spell_hint}
-use Rattle.wat_print_instr.specs.InstructionForm.{spell_instruction}
+use Rattle.std.proofs.Common.{◌++◌, [], ◌∙◌}
+use Rattle.wat_print_instr.specs.Laws.Prelude.{instruction_view, spell_option, puts_put, puts_both, put_then, spell_hint, spell_instruction}
 use Rattle.wat_print_instr.proofs.expression.write_step.Goals as goal
 
 pub returns-clause-written : goal.returns-clause-written

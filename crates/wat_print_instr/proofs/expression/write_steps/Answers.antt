@@ -1,11 +1,5 @@
-use Rattle.std.specs.Prelude.{◌≡◌, ◌≢◌, ℕ, ◌+◌, true, false, map, List, Option}
-use Rattle.std.proofs.Common.{rules, subst, sym}
-use Rattle.wat_expr.specs.Expression.{hint_view}
-use Rattle.wat_instr.specs.Instruction.{instruction_view}
-use Rattle.wat_print.specs.Layout.{Writes}
-use Rattle.wat_print.specs.declared.fault.Refused.TheVariants.{Memory}
-use Rattle.wat_print_instr.specs.ExpressionForm.{step_of, spell_step, printable_step}
-use Rattle.wat_print_instr.specs.ExpressionForm.{printable_expression}
+use Rattle.std.proofs.Common.{◌≡◌, ◌≢◌, ℕ, ◌+◌, true, false, map, List, Option, rules, subst, sym}
+use Rattle.wat_print_instr.specs.Prelude.{hint_view, instruction_view, Writes, Memory, step_of, spell_step, printable_step, printable_expression}
 use Rattle.wat_print_instr.proofs.Walked.{Walked, walk_goes, walk_stops, drop_step}
 use Rattle.wat_print_instr.proofs.expression.write_steps.Goals as goal
 

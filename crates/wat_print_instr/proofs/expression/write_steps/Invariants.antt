@@ -1,6 +1,5 @@
 use Rattle.std.specs.Prelude.{map}
-use Rattle.wat_expr.specs.Expression.{hint_view}
-use Rattle.wat_instr.specs.Instruction.{instruction_view}
+use Rattle.wat_print_instr.specs.Prelude.{hint_view, instruction_view}
 use Rattle.wat_print_instr.proofs.Walked.{Walked}
 use Rattle.wat_print_instr.proofs.expression.write_steps.Given as goal
 

@@ -1,6 +1,5 @@
-use Rattle.std.proofs.Common.{◌≡◌, [], map, take, drop}
-use Rattle.wat_instr.specs.Instruction.{instruction_view}
-use Rattle.wat_print_instr.specs.FoldedForm.{first_apart}
+use Rattle.std.specs.Prelude.{◌≡◌, [], map, take, drop}
+use Rattle.wat_print_instr.specs.Prelude.{instruction_view, first_apart}
 use Rattle.wat_print_instr.proofs.folded.find_apart.Given as goal
 
 -- the remaining instructions decide the result

@@ -1,8 +1,5 @@
-use Rattle.std.proofs.Common.{drop}
-use Rattle.std.specs.Prelude.{map}
-use Rattle.wat_instr.specs.Instruction.{instruction_view}
-use Rattle.wat_print.specs.Prints.{Left}
-use Rattle.wat_print_instr.specs.FoldedForm.{own_form}
+use Rattle.std.specs.Prelude.{drop, map}
+use Rattle.wat_print_instr.specs.Prelude.{instruction_view, Left, own_form}
 use Rattle.wat_print_instr.proofs.folded.write_each_own.Given as goal
 
 abbrev pub invariant-loop-instr : goal.invariant-loop-instr

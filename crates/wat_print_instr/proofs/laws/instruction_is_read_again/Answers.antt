@@ -1,7 +1,5 @@
 use Rattle.std.specs.Prelude.{[], ◌∷◌}
-use Rattle.wat_lexer.specs.Token.{LParen, Annotation}
-use Rattle.wat_print_instr.specs.InstructionForm.{spell_instruction}
-use Rattle.wat_print_instr.specs.Laws.Instruction.{instruction_here, ends_nothing, ends_annotation}
+use Rattle.wat_print_instr.specs.Laws.Prelude.{LParen, Annotation, spell_instruction, instruction_here, ends_nothing, ends_annotation}
 use Rattle.wat_print_instr.proofs.laws.instruction_is_read_again.Goals as goal
 
 pub returns-clause-follow : goal.returns-clause-follow

@@ -1,7 +1,5 @@
-use Rattle.std.proofs.Common.{drop}
-use Rattle.std.specs.Prelude.{map}
-use Rattle.wat_print.specs.Prints.{Left}
-use Rattle.wat_print_instr.specs.Form.{exactly}
+use Rattle.std.specs.Prelude.{drop, map}
+use Rattle.wat_print_instr.specs.Prelude.{Left, exactly}
 use Rattle.wat_print_instr.proofs.traits.write_each.Given as goal
 
 abbrev pub invariant-loop-value : goal.invariant-loop-value

@@ -1,6 +1,5 @@
-use Rattle.std.proofs.Common.{drop}
-use Rattle.wat_print.specs.Prints.{Left}
-use Rattle.wat_print_module.specs.DataVal.{byte_form}
+use Rattle.std.specs.Prelude.{drop}
+use Rattle.wat_print_module.specs.Prelude.{Left, byte_form}
 use Rattle.wat_print_module.proofs.data_val.write_bytes.Given as goal
 
 abbrev pub invariant-loop-byte : goal.invariant-loop-byte

@@ -1,7 +1,6 @@
-use Rattle.std.proofs.Common.{drop, map}
+use Rattle.std.specs.Prelude.{drop, map}
+use Rattle.wat_print_module.specs.Prelude.{Left, data_val_form}
 use Rattle.wat_fields.specs.DataVal.{data_val_view}
-use Rattle.wat_print.specs.Prints.{Left}
-use Rattle.wat_print_module.specs.DataVal.{data_val_form}
 use Rattle.wat_print_module.proofs.data_val.write_data_vals.Given as goal
 
 abbrev pub invariant-loop-value : goal.invariant-loop-value

@@ -1,6 +1,5 @@
-use Rattle.std.proofs.Common.{◌≡◌, drop, map}
-use Rattle.wat_links.specs.Dylink.{subsection_view}
-use Rattle.wat_print_module.specs.Dylink.{are_cut}
+use Rattle.std.specs.Prelude.{◌≡◌, drop, map}
+use Rattle.wat_print_module.specs.Prelude.{subsection_view, are_cut}
 use Rattle.wat_print_module.proofs.dylink.are_cut.Given as goal
 
 -- the remaining subsections decide the result

@@ -1,8 +1,6 @@
-use Rattle.std.proofs.Common.{drop, map}
+use Rattle.std.specs.Prelude.{drop, map}
+use Rattle.wat_print_module.specs.Prelude.{of_export, Left, entry_form}
 use Rattle.wat_links.specs.Dylink.{dylink_export_view}
-use Rattle.wat_links.specs.Entries.{of_export}
-use Rattle.wat_print.specs.Prints.{Left}
-use Rattle.wat_print_module.specs.Dylink.{entry_form}
 use Rattle.wat_print_module.proofs.dylink.write_exports.Given as goal
 
 abbrev pub invariant-loop-entry : goal.invariant-loop-entry

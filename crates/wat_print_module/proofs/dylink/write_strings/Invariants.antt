@@ -1,6 +1,5 @@
-use Rattle.std.proofs.Common.{drop, map}
-use Rattle.wat_print.specs.Prints.{Left}
-use Rattle.wat_print.specs.Strings.{text_form}
+use Rattle.std.specs.Prelude.{drop, map}
+use Rattle.wat_print_instr.specs.Prelude.{Left, text_form}
 use Rattle.wat_print_module.proofs.dylink.write_strings.Given as goal
 
 abbrev pub invariant-loop-name : goal.invariant-loop-name

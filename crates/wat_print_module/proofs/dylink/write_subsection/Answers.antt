@@ -1,14 +1,9 @@
-use Rattle.std.specs.Prelude.{[], ◌∷◌, codes, map}
-use Rattle.std.proofs.Common.{sym, subst}
+use Rattle.std.proofs.Common.{[], ◌∷◌, codes, map, sym, subst}
 use Rattle.std.proofs.lemmas.Result.{on_ok_weaker, IfErr-weaker}
+use Rattle.wat_print_module.specs.Prelude.{more, subsection_view, runtime_path, target_arch, other, entries_in, Printed, entry_form, entries_form}
 use Rattle.wat_lexer.specs.Token.{String}
-use Rattle.wat_tokens.specs.Tests.{more}
-use Rattle.wat_links.specs.Dylink.{subsection_view, runtime_path, target_arch}
-use Rattle.wat_links.specs.Entries.{other, entries_in}
 use Rattle.wat_links.specs.declared.dylink.Dylink0Subsection.{Dylink0Subsection}
-use Rattle.wat_print.specs.Prints.{Printed}
 use Rattle.wat_print.specs.Laws.Written.{enclosed}
-use Rattle.wat_print_module.specs.Dylink.{entry_form, entries_form}
 use Rattle.wat_print_module.proofs.Single.{printed_one}
 use Rattle.wat_print_module.proofs.dylink.write_subsection.Goals as goal
 

@@ -1,8 +1,5 @@
-use Rattle.std.proofs.Common.{drop, flat_map, map}
-use Rattle.wat_links.specs.Dylink.{subsection_view}
-use Rattle.wat_links.specs.Entries.{entries_in}
-use Rattle.wat_print.specs.Prints.{Left}
-use Rattle.wat_print_module.specs.Dylink.{entry_form}
+use Rattle.std.specs.Prelude.{drop, flat_map, map}
+use Rattle.wat_print_module.specs.Prelude.{subsection_view, entries_in, Left, entry_form}
 use Rattle.wat_print_module.proofs.dylink.write_subsections.Given as goal
 
 abbrev pub invariant-loop-subsection : goal.invariant-loop-subsection

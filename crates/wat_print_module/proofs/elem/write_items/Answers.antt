@@ -1,6 +1,4 @@
-use Rattle.wat_expr.specs.Expression.{expression_view}
-use Rattle.wat_print.specs.Laws.Written.{lines_more}
-use Rattle.wat_print_module.specs.Elem.{elem_item_form}
+use Rattle.wat_print_module.specs.Prelude.{expression_view, lines_more, elem_item_form}
 use Rattle.wat_print_module.proofs.elem.write_items.Goals as goal
 
 pub loop-item-preserved : goal.loop-item-preserved

@@ -1,7 +1,5 @@
-use Rattle.std.proofs.Common.{take}
-use Rattle.wat_expr.specs.Expression.{expression_view}
-use Rattle.wat_print.specs.Parts.{WroteLines}
-use Rattle.wat_print_module.specs.Elem.{elem_item_form}
+use Rattle.std.specs.Prelude.{take}
+use Rattle.wat_print_module.specs.Prelude.{expression_view, WroteLines, elem_item_form}
 use Rattle.wat_print_module.proofs.elem.write_items.Given as goal
 
 abbrev pub invariant-loop-item : goal.invariant-loop-item

@@ -1,4 +1,4 @@
-use Rattle.std.proofs.Common.{drop, map}
+use Rattle.std.specs.Prelude.{drop, map}
 use Rattle.wat_print.specs.Prints.{Left}
 use Rattle.wat_print_module.specs.FieldHead.{inline_name_form}
 use Rattle.wat_print_module.proofs.field_head.write_inline_export.Given as goal

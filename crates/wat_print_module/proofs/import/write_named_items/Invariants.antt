@@ -1,6 +1,6 @@
-use Rattle.std.proofs.Common.{drop, map}
-use Rattle.wat_links.specs.Import.{named_view}
+use Rattle.std.specs.Prelude.{drop, map}
 use Rattle.wat_print.specs.Prints.{Left}
+use Rattle.wat_links.specs.Import.{named_view}
 use Rattle.wat_print_module.specs.Import.{named_form}
 use Rattle.wat_print_module.proofs.import.write_named_items.Given as goal
 

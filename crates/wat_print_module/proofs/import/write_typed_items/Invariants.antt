@@ -1,6 +1,6 @@
-use Rattle.std.proofs.Common.{drop, map}
-use Rattle.wat_links.specs.Import.{typed_view}
+use Rattle.std.specs.Prelude.{drop, map}
 use Rattle.wat_print.specs.Prints.{Left}
+use Rattle.wat_links.specs.Import.{typed_view}
 use Rattle.wat_print_module.specs.Import.{typed_form}
 use Rattle.wat_print_module.proofs.import.write_typed_items.Given as goal
 

@@ -1,7 +1,6 @@
-use Rattle.std.proofs.Common.{◌≡◌, drop}
-use Rattle.wat_fields.specs.Local.{locals_view}
+use Rattle.std.specs.Prelude.{◌≡◌, drop}
+use Rattle.wat_print_module.specs.Prelude.{locals_view, local_label}
 use Rattle.wat_print.specs.Label.{none_labelled}
-use Rattle.wat_print_module.specs.Local.{local_label}
 use Rattle.wat_print_module.proofs.local.are_unlabelled.Given as goal
 
 -- the remaining locals decide the result

@@ -1,7 +1,5 @@
-use Rattle.std.proofs.Common.{drop}
-use Rattle.wat_fields.specs.Local.{locals_view}
-use Rattle.wat_print.specs.Prints.{Left}
-use Rattle.wat_print_module.specs.Local.{local_form}
+use Rattle.std.specs.Prelude.{drop}
+use Rattle.wat_print_module.specs.Prelude.{locals_view, Left, local_form}
 use Rattle.wat_print_module.proofs.local.write_locals.Given as goal
 
 abbrev pub invariant-loop-local : goal.invariant-loop-local

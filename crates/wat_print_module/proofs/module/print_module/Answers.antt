@@ -1,7 +1,5 @@
-use Rattle.wat_core.specs.Module.{module_view}
-use Rattle.wat_print.specs.Printed.{may_break}
-use Rattle.wat_print.specs.Laws.Printed.{on_one_line}
-use Rattle.wat_print_module.specs.Module.{spell_module_group}
+use Rattle.wat_print_instr.specs.Laws.Prelude.{may_break, on_one_line}
+use Rattle.wat_print_module.specs.Prelude.{module_view, spell_module_group}
 use Rattle.wat_print_module.specs.Laws.Module.{module_reads_back}
 use Rattle.wat_print_module.proofs.module.print_module.Goals as goal
 

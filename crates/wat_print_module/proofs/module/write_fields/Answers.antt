@@ -1,6 +1,4 @@
-use Rattle.wat_core.specs.Field.{field_view}
-use Rattle.wat_print.specs.Laws.Written.{lines_more}
-use Rattle.wat_print_module.specs.Field.{field_form}
+use Rattle.wat_print_module.specs.Prelude.{field_view, lines_more, field_form}
 use Rattle.wat_print_module.proofs.module.write_fields.Goals as goal
 
 pub loop-number-preserved : goal.loop-number-preserved

@@ -1,7 +1,5 @@
-use Rattle.std.proofs.Common.{take}
-use Rattle.wat_core.specs.Field.{field_view}
-use Rattle.wat_print.specs.Parts.{WroteLines}
-use Rattle.wat_print_module.specs.Field.{field_form}
+use Rattle.std.specs.Prelude.{take}
+use Rattle.wat_print_module.specs.Prelude.{field_view, WroteLines, field_form}
 use Rattle.wat_print_module.proofs.module.write_fields.Given as goal
 
 abbrev pub invariant-loop-number : goal.invariant-loop-number

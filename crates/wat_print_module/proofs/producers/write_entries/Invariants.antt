@@ -1,7 +1,5 @@
-use Rattle.std.proofs.Common.{drop}
-use Rattle.wat_links.specs.Producers.{names_view}
-use Rattle.wat_print.specs.Prints.{Left}
-use Rattle.wat_print_module.specs.Producers.{produced_form}
+use Rattle.std.specs.Prelude.{drop}
+use Rattle.wat_print_module.specs.Prelude.{names_view, Left, produced_form}
 use Rattle.wat_print_module.proofs.producers.write_entries.Given as goal
 
 abbrev pub invariant-loop-entry : goal.invariant-loop-entry

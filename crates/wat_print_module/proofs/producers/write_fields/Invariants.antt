@@ -1,4 +1,4 @@
-use Rattle.std.proofs.Common.{drop, map}
+use Rattle.std.specs.Prelude.{drop, map}
 use Rattle.wat_print.specs.Prints.{Left}
 use Rattle.wat_print_module.specs.Producers.{produced_view, field_form}
 use Rattle.wat_print_module.proofs.producers.write_fields.Given as goal

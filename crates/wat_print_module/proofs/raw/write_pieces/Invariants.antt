@@ -1,6 +1,5 @@
-use Rattle.std.proofs.Common.{drop, map}
-use Rattle.wat_print.specs.Prints.{Left}
-use Rattle.wat_print.specs.Strings.{string_form}
+use Rattle.std.specs.Prelude.{drop, map}
+use Rattle.wat_print_instr.specs.Prelude.{Left, string_form}
 use Rattle.wat_print_module.proofs.raw.write_pieces.Given as goal
 
 abbrev pub invariant-loop-piece : goal.invariant-loop-piece

@@ -1,6 +1,5 @@
-use Rattle.std.proofs.Common.{◌≡◌, ◌≤◌, ◌-◌, ◌+◌, length, drop}
-use Rattle.std.specs.List.{prefix_len}
-use Rattle.wat_lexer.specs.Bytes.{is_space}
+use Rattle.std.specs.Prelude.{◌≡◌, ◌≤◌, ◌-◌, ◌+◌, length, drop}
+use Rattle.wat_mnemonics.specs.Prelude.{prefix_len, is_space}
 use Rattle.wat_report.proofs.around.blank_end.Given as goal
 
 abbrev pub invariant-loop-end : goal.invariant-loop-end

@@ -1,6 +1,6 @@
-use Rattle.std.proofs.Common.{◌≡◌, ◌≤◌}
+use Rattle.std.specs.Prelude.{◌≡◌, ◌≤◌}
+use Rattle.wat_report.specs.Positions.{last_up_to}
 use Rattle.wat_report.specs.Around.{is_behind_paren}
-use Rattle.wat_report.specs.Places.{last_up_to}
 use Rattle.wat_report.proofs.around.list_start.Given as goal
 
 abbrev pub invariant-loop-start : goal.invariant-loop-start

@@ -1,5 +1,4 @@
-use Rattle.std.proofs.Common.{◌≡◌, ◌++◌}
-use Rattle.std.specs.Prelude.{map}
+use Rattle.std.specs.Prelude.{◌≡◌, ◌++◌, map}
 use Rattle.wat_report.specs.Shown.{padding}
 use Rattle.wat_report.proofs.caret.add_blanks.Given as goal
 

@@ -1,9 +1,6 @@
-use Rattle.std.proofs.Common.{rules, ◌≡◌}
-use Rattle.std.specs.Prelude.{Some}
-use Rattle.wat_lexer.specs.View.{placed}
-use Rattle.wat_tokens.specs.Place.{offset_of}
-use Rattle.wat_report.specs.Front.{HasGroups, cut}
-use Rattle.wat_report.specs.Places.{char_start}
+use Rattle.std.proofs.Common.{rules, ◌≡◌, Some}
+use Rattle.wat_report.specs.Prelude.{placed, offset_of, HasGroups, char_start}
+use Rattle.wat_report.specs.Front.{cut}
 use Rattle.wat_report.proofs.AtChar.{at_char}
 use Rattle.wat_report.proofs.diagnostic.diagnostic_in.Goals as goal
 

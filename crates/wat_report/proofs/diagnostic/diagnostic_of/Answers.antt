@@ -1,8 +1,6 @@
-use Rattle.std.proofs.Common.{rules, ◌≡◌}
-use Rattle.std.specs.Prelude.{None}
-use Rattle.wat_tokens.specs.Place.{offset_of}
+use Rattle.std.proofs.Common.{rules, ◌≡◌, None}
+use Rattle.wat_report.specs.Prelude.{offset_of, char_start}
 use Rattle.wat_report.specs.Front.{uncut}
-use Rattle.wat_report.specs.Places.{char_start}
 use Rattle.wat_report.proofs.AtChar.{at_char}
 use Rattle.wat_report.proofs.diagnostic.diagnostic_of.Goals as goal
 
@@ -12,5 +10,5 @@ returns c =
     let place : at ≡ char_start c.args.text.now (offset_of c.args.error.span) = search rules in
     record {
       found = at_char c.args.text.now (offset_of c.args.error.span) at c.args.error.fault None c.diagnostic_at.result place (uncut c.args.text.now at (c.in-Err.ensures.none c.in_default.not-Memory)) c.diagnostic_at.ensures.placed;
-      bare = c.diagnostic_at.ensures.bare;
+      none_expected = c.diagnostic_at.ensures.none_expected;
     }

@@ -1,4 +1,4 @@
-use Rattle.std.proofs.Common.{◌≡◌, ◌≤◌, ◌-◌, ◌+◌, length, drop}
+use Rattle.std.specs.Prelude.{◌≡◌, ◌≤◌, ◌-◌, ◌+◌, length, drop}
 use Rattle.wat_report.specs.Escapes.{escapes_len}
 use Rattle.wat_report.proofs.escapes.escapes_end_from.Given as goal
 

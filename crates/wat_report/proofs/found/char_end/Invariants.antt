@@ -1,6 +1,5 @@
-use Rattle.std.proofs.Common.{◌≡◌, ◌≤◌, ◌-◌, ◌+◌, length, drop}
-use Rattle.std.specs.List.{prefix_len}
-use Rattle.wat_lexer.specs.Bytes.{between}
+use Rattle.std.specs.Prelude.{◌≡◌, ◌≤◌, ◌-◌, ◌+◌, length, drop}
+use Rattle.wat_mnemonics.specs.Prelude.{prefix_len, between}
 use Rattle.wat_report.proofs.found.char_end.Given as goal
 
 abbrev pub invariant-loop-end : goal.invariant-loop-end

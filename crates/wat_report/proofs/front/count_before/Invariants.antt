@@ -1,6 +1,5 @@
-use Rattle.std.proofs.Common.{◌≡◌, ◌≤◌, ◌-◌, ◌+◌, length, drop}
-use Rattle.wat_lexer.specs.View.{placed}
-use Rattle.wat_report.specs.Front.{count_before}
+use Rattle.std.specs.Prelude.{◌≡◌, ◌≤◌, ◌-◌, ◌+◌, length, drop}
+use Rattle.wat_report.specs.Prelude.{placed, count_before}
 use Rattle.wat_report.proofs.front.count_before.Given as goal
 
 abbrev pub invariant-loop-count : goal.invariant-loop-count

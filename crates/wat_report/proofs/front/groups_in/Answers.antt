@@ -1,10 +1,8 @@
-use Rattle.std.proofs.Common.{◌≡◌, ◌<◌, ◌∙◌, length, get_or, sym, arith}
-use Rattle.std.specs.Prelude.{true}
-use Rattle.wat_lexer.specs.Token.{is_close, is_open}
-use Rattle.wat_lexer.specs.View.{no_entry}
+use Rattle.std.proofs.Common.{◌≡◌, ◌<◌, ◌∙◌, length, get_or, sym, arith, true}
+use Rattle.wat_report.specs.Prelude.{is_close, is_open, no_entry}
 use Rattle.wat_report.proofs.Groups.{no_close, no_more, one_more}
-use Rattle.wat_report.proofs.front.groups_in.Goals as goal
 use Rattle.wat_report.proofs.front.groups_in.Goals.{then-opens, else-opens+then-closes, else-opens+else-closes}
+use Rattle.wat_report.proofs.front.groups_in.Goals as goal
 
 pub loop-at-preserved : goal.loop-at-preserved
 loop-at-preserved c =

@@ -1,7 +1,5 @@
-use Rattle.std.proofs.Common.{◌≡◌, ◌≤◌, take}
-use Rattle.std.specs.Prelude.{count_by}
-use Rattle.wat_lexer.specs.Token.{is_close, is_open, tokens_of}
-use Rattle.wat_lexer.specs.View.{placed}
+use Rattle.std.specs.Prelude.{◌≡◌, ◌≤◌, take, count_by}
+use Rattle.wat_report.specs.Prelude.{is_close, is_open, tokens_of, placed}
 use Rattle.wat_report.proofs.front.groups_in.Given as goal
 
 abbrev pub invariant-loop-at : goal.invariant-loop-at

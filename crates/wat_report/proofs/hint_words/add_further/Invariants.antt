@@ -1,5 +1,4 @@
-use Rattle.std.proofs.Common.{◌≡◌, ◌++◌, take}
-use Rattle.std.specs.Prelude.{flat_map}
+use Rattle.std.specs.Prelude.{◌≡◌, ◌++◌, take, flat_map}
 use Rattle.wat_report.specs.HintWords.{next_quoted}
 use Rattle.wat_report.proofs.hint_words.add_further.Given as goal
 

@@ -1,5 +1,4 @@
-use Rattle.std.proofs.Common.{◌≡◌, ◌++◌, take}
-use Rattle.std.specs.Prelude.{flat_map}
+use Rattle.std.specs.Prelude.{◌≡◌, ◌++◌, take, flat_map}
 use Rattle.wat_report.specs.Json.{json_escape}
 use Rattle.wat_report.proofs.json.add_characters.Given as goal
 

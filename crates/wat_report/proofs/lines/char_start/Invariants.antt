@@ -1,6 +1,5 @@
-use Rattle.std.proofs.Common.{◌≡◌, ◌≤◌, length}
-use Rattle.std.specs.Prelude.{min}
-use Rattle.wat_report.specs.Places.{begins_char, last_up_to}
+use Rattle.std.specs.Prelude.{◌≡◌, ◌≤◌, length, min}
+use Rattle.wat_report.specs.Positions.{begins_char, last_up_to}
 use Rattle.wat_report.proofs.lines.char_start.Given as goal
 
 abbrev pub invariant-loop-at : goal.invariant-loop-at

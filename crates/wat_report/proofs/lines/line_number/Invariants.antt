@@ -1,5 +1,5 @@
-use Rattle.std.proofs.Common.{◌≡◌, ◌≤◌, ◌-◌, ◌+◌}
-use Rattle.wat_report.specs.Places.{begins_line, count_up_to}
+use Rattle.std.specs.Prelude.{◌≡◌, ◌≤◌, ◌-◌, ◌+◌}
+use Rattle.wat_report.specs.Positions.{begins_line, count_up_to}
 use Rattle.wat_report.proofs.lines.line_number.Given as goal
 
 abbrev pub invariant-loop-passed : goal.invariant-loop-passed

@@ -1,5 +1,5 @@
-use Rattle.std.proofs.Common.{◌≡◌, ◌≤◌}
-use Rattle.wat_report.specs.Places.{begins_line, last_up_to}
+use Rattle.std.specs.Prelude.{◌≡◌, ◌≤◌}
+use Rattle.wat_report.specs.Positions.{begins_line, last_up_to}
 use Rattle.wat_report.proofs.lines.line_start.Given as goal
 
 abbrev pub invariant-loop-start : goal.invariant-loop-start

@@ -1,5 +1,5 @@
-use Rattle.std.proofs.Common.{◌≡◌, ◌≤◌, ◌-◌, length}
-use Rattle.wat_report.specs.Places.{line_stop}
+use Rattle.std.specs.Prelude.{◌≡◌, ◌≤◌, ◌-◌, length}
+use Rattle.wat_report.specs.Positions.{line_stop}
 use Rattle.wat_report.proofs.lines.line_stop.Given as goal
 
 abbrev pub invariant-loop-stop : goal.invariant-loop-stop

@@ -1,5 +1,4 @@
-use Rattle.std.proofs.Common.{arith, get_or}
-use Rattle.std.specs.Prelude.{None}
+use Rattle.std.proofs.Common.{arith, get_or, None}
 use Rattle.wat_show.proofs.Lines.{added_line}
 use Rattle.wat_show.proofs.expressions.add_lines.Goals as goal
 

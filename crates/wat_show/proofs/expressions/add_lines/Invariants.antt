@@ -1,7 +1,5 @@
-use Rattle.std.proofs.Common.{◌≡◌, ◌++◌, take, get_or}
-use Rattle.std.specs.Prelude.{map, None}
-use Rattle.wat_instr.specs.Instruction.{instruction_view}
-use Rattle.wat_show.specs.Expressions.{lines}
+use Rattle.std.specs.Prelude.{◌≡◌, ◌++◌, take, get_or, map, None}
+use Rattle.wat_show.specs.Prelude.{instruction_view, lines}
 use Rattle.wat_show.proofs.expressions.add_lines.Given as goal
 
 abbrev pub invariant-loop-index : goal.invariant-loop-index

@@ -1,7 +1,5 @@
-use Rattle.std.proofs.Common.{◌≡◌, ◌++◌, take, []}
-use Rattle.std.specs.Prelude.{map}
-use Rattle.wat_instr.specs.Instruction.{instruction_view}
-use Rattle.wat_show.specs.Expressions.{lines, hint_at}
+use Rattle.std.specs.Prelude.{◌≡◌, ◌++◌, take, [], map}
+use Rattle.wat_show.specs.Prelude.{instruction_view, lines, hint_at}
 use Rattle.wat_show.proofs.expressions.add_plain_lines.Given as goal
 
 abbrev pub invariant-loop-instr : goal.invariant-loop-instr

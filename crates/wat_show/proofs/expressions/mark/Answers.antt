@@ -1,6 +1,5 @@
-use Rattle.std.proofs.Common.{◌≡◌, ◌∙◌, ap, arith, sym, refl, get_or, length}
+use Rattle.std.proofs.Common.{◌≡◌, ◌∙◌, ap, arith, sym, refl, get_or, length, None, is_some}
 use Rattle.std.proofs.lemmas.List.{get_or_read_under}
-use Rattle.std.specs.Prelude.{None, is_some}
 use Rattle.wat_show.proofs.Lines.{marks_set, marks_stay, marks_past}
 use Rattle.wat_show.proofs.expressions.mark.Goals as goal
 

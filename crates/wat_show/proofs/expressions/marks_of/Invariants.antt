@@ -1,7 +1,5 @@
-use Rattle.std.proofs.Common.{◌≡◌, take, length}
-use Rattle.std.specs.Prelude.{map}
-use Rattle.wat_expr.specs.Expression.{hint_view}
-use Rattle.wat_show.specs.Expressions.{AreMarks}
+use Rattle.std.specs.Prelude.{◌≡◌, take, length, map}
+use Rattle.wat_show.specs.Prelude.{hint_view, AreMarks}
 use Rattle.wat_show.proofs.expressions.marks_of.Given as goal
 
 abbrev pub invariant-loop-hint : goal.invariant-loop-hint

@@ -1,5 +1,4 @@
-use Rattle.std.proofs.Common.{◌≡◌, ◌++◌, take}
-use Rattle.std.specs.Prelude.{map}
+use Rattle.std.specs.Prelude.{◌≡◌, ◌++◌, take, map}
 use Rattle.wat_expr.specs.Expression.{expression_view}
 use Rattle.wat_show.specs.Fields.{all_below}
 use Rattle.wat_show.proofs.fields.add_all_below.Given as goal

@@ -1,6 +1,5 @@
-use Rattle.std.proofs.Common.{◌≡◌, ◌++◌, ◌∙◌, ℕ, ap, sym, subst}
+use Rattle.std.proofs.Common.{◌≡◌, ◌++◌, ◌∙◌, ℕ, ap, sym, subst, OnOk, codes}
 use Rattle.std.proofs.lemmas.Simd.{map-map}
-use Rattle.std.specs.Prelude.{OnOk, codes}
 use Rattle.wat_fields.specs.DataVal.{bytes_in, data_val_view, data_vals_view}
 use Rattle.wat_show.specs.Fields.{byte_count, vals_count}
 use Rattle.wat_show.proofs.Added.{added_both}

@@ -1,9 +1,7 @@
-use Rattle.std.proofs.Common.{ℕ, ◌≡◌, ◌++◌, ◌∙◌, ap, arith, length}
-use Rattle.std.proofs.lemmas.List.{length-map}
-use Rattle.std.specs.Prelude.{codes, map}
+use Rattle.std.proofs.Common.{ℕ, ◌≡◌, ◌++◌, ◌∙◌, ap, arith, length, codes, map}
+use Rattle.wat_show.specs.Prelude.{length-map, counted}
 use Rattle.wat_fields.specs.Local.{local_view}
 use Rattle.wat_show.proofs.Added.{added_both}
-use Rattle.wat_show.specs.Words.{counted}
 use Rattle.wat_show.proofs.fields.add_func.Goals as goal
 
 pub returns-in_ok-add_counted-in-Inline : goal.returns-in_ok-add_counted-in-Inline

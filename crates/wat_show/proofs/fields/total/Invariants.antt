@@ -1,6 +1,5 @@
 -- Each piece has fewer than 2 ^ 64 bytes.
-use Rattle.std.proofs.Common.{◌≡◌, ◌≤◌, ◌*◌, take}
-use Rattle.std.specs.Prelude.{map}
+use Rattle.std.specs.Prelude.{◌≡◌, ◌≤◌, ◌*◌, take, map}
 use Rattle.wat_show.specs.Fields.{byte_count}
 use Rattle.wat_show.proofs.fields.total.Given as goal
 

@@ -1,5 +1,5 @@
 -- The bytes are all bytes that the reader returned so far, and no read failed. Each turn except the last adds a byte.
-use Rattle.std.proofs.Common.{◌↔◌, IsTrue, ◌-◌, ◌^◌, vec_len}
+use Rattle.std.specs.Prelude.{◌↔◌, IsTrue, ◌-◌, ◌^◌, vec_len}
 use Rattle.std.specs.Io.KnownBytes.{Consumes}
 use Rattle.wat_show.proofs.input.read_all.Given as goal
 

@@ -1,5 +1,4 @@
-use Rattle.std.proofs.Common.{◌≡◌, ◌++◌, take}
-use Rattle.std.specs.Prelude.{map, flat_map}
+use Rattle.std.specs.Prelude.{◌≡◌, ◌++◌, take, map, flat_map}
 use Rattle.wat_core.specs.Field.{field_view}
 use Rattle.wat_show.specs.Fields.{field_text}
 use Rattle.wat_show.proofs.modules.add_fields.Given as goal

@@ -1,6 +1,6 @@
 -- The bytes written so far and the rest are the whole output, and no write failed. Each turn except the last makes
 -- the rest shorter.
-use Rattle.std.proofs.Common.{◌≡◌, ◌↔◌, IsTrue, ℕ, List, ◌++◌, length}
+use Rattle.std.specs.Prelude.{◌≡◌, ◌↔◌, IsTrue, ℕ, List, ◌++◌, length}
 use Rattle.std.specs.Io.KnownBytes.{Appends}
 use Rattle.wat_show.proofs.output.write_all_of.Given as goal
 

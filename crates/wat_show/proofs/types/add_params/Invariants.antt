@@ -1,6 +1,6 @@
-use Rattle.std.proofs.Common.{◌≡◌, ◌++◌, take}
-use Rattle.wat_types.specs.Function.{params_view}
+use Rattle.std.specs.Prelude.{◌≡◌, ◌++◌, take}
 use Rattle.wat_show.specs.Types.{types_text, param_types}
+use Rattle.wat_types.specs.Function.{params_view}
 use Rattle.wat_show.proofs.types.add_params.Given as goal
 
 abbrev pub invariant-loop-param : goal.invariant-loop-param

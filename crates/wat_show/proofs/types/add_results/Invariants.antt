@@ -1,7 +1,6 @@
-use Rattle.std.proofs.Common.{◌≡◌, ◌++◌, take}
-use Rattle.std.specs.Prelude.{map}
-use Rattle.wat_types.specs.Value.{val_view}
+use Rattle.std.specs.Prelude.{◌≡◌, ◌++◌, take, map}
 use Rattle.wat_show.specs.Types.{types_text}
+use Rattle.wat_types.specs.Value.{val_view}
 use Rattle.wat_show.proofs.types.add_results.Given as goal
 
 abbrev pub invariant-loop-ty : goal.invariant-loop-ty

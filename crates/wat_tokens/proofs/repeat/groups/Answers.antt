@@ -1,10 +1,7 @@
 use Rattle.std.proofs.Common.{rules, map, sym, ◌∙◌}
 use Rattle.std.proofs.lemmas.Result.{err_from_is_err_and}
-use Rattle.wat_tokens.specs.Laws.Cost.{costs_then, quiet_costs}
-use Rattle.wat_tokens.specs.Joined.{join}
-use Rattle.wat_tokens.specs.Laws.Filled.{extends_then}
-use Rattle.wat_tokens.specs.Laws.Many.{adding_goes_on, adding_ends, adding_fails, adding_takes}
-use Rattle.wat_tokens.proofs.Joined.{joined_not_bare}
+use Rattle.wat_tokens.specs.Laws.Prelude.{costs_then, quiet_costs, join, extends_then, adding_goes_on, adding_ends, adding_fails, adding_takes}
+use Rattle.wat_tokens.proofs.Joined.{joined_not_heapless}
 use Rattle.wat_tokens.proofs.repeat.groups.Goals as goal
 
 pub groups-smaller : goal.groups-smaller
@@ -38,7 +35,7 @@ returns-in_err-take g c =
     let before = map g.G.Group.view.of c.groups.out.items in
     record {
       reads = record {
-        exact = rw (p.1, p.2) ((λ not. sym c.groups.invariant.exact ∙ adding_fails join g.G.Group.follows g.G.Group.grammar c.requires before c.groups.parser.left begun (c.in_err-take.ensures.reads.exact.0 not)), (λ m. (joined_not_bare g.G.Group.follows g.G.Group.grammar c.requires before c.groups.parser.left _ begun (c.in_err-take.ensures.reads.exact.1 m) c.groups.invariant.exact)));
+        exact = rw (p.1, p.2) ((λ not. sym c.groups.invariant.exact ∙ adding_fails join g.G.Group.follows g.G.Group.grammar c.requires before c.groups.parser.left begun (c.in_err-take.ensures.reads.exact.0 not)), (λ m. (joined_not_heapless g.G.Group.follows g.G.Group.grammar c.requires before c.groups.parser.left _ begun (c.in_err-take.ensures.reads.exact.1 m) c.groups.invariant.exact)));
         counts = search rules;
         cost = search (rules, costs_then, quiet_costs);
         settings = search rules;

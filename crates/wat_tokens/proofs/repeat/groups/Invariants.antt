@@ -1,10 +1,5 @@
-use Rattle.std.proofs.Common.{◌≡◌, length}
-use Rattle.std.specs.Prelude.{map, ◌≤◌, ◌+◌}
-use Rattle.wat_tokens.specs.Cost.{Costs}
-use Rattle.wat_tokens.specs.Counts.{Carries, SameSettings}
-use Rattle.wat_tokens.specs.Joined.{joined_behind}
-use Rattle.wat_tokens.specs.Many.{Extends}
-use Rattle.wat_tokens.specs.ManySpells.{many_reads}
+use Rattle.std.specs.Prelude.{◌≡◌, length, map, ◌≤◌, ◌+◌}
+use Rattle.wat_tokens.specs.Prelude.{Costs, Carries, SameSettings, joined_behind, Extends, many_reads}
 use Rattle.wat_tokens.proofs.repeat.groups.Given as goal
 
 abbrev pub invariant-groups : goal.invariant-groups

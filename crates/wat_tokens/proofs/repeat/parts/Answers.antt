@@ -1,11 +1,7 @@
 use Rattle.std.proofs.Common.{rules, ap, ◌≡◌, ◌∷◌, [], ◌++◌, map, sym, ◌∙◌}
 use Rattle.std.proofs.lemmas.Result.{err_from_is_err_and}
-use Rattle.std.proofs.lemmas.List.{map_push}
-use Rattle.wat_tokens.specs.Laws.Cost.{costs_then, quiet_costs}
-use Rattle.wat_tokens.specs.Error.{Error}
-use Rattle.wat_tokens.specs.Laws.Filled.{extends_is, extends_then}
-use Rattle.wat_tokens.specs.Laws.Loops.{loop_goes_on, loop_ends, loop_fails, not_bare}
-use Rattle.wat_tokens.specs.Laws.Refuses.{refused_read}
+use Rattle.wat_tokens.specs.Laws.Prelude.{map_push, costs_then, quiet_costs, Error, extends_then, loop_goes_on, loop_ends, loop_fails, not_heapless, refused_read}
+use Rattle.wat_tokens.specs.Laws.Filled.{extends_is}
 use Rattle.wat_tokens.proofs.repeat.parts.Goals as goal
 
 pub parts-preserved : goal.parts-preserved
@@ -38,7 +34,7 @@ returns-in_err-take g c =
     let p = err_from_is_err_and c.from_residual.result c.from_residual.ensures.1 in
     record {
       reads = record {
-        exact = rw (p.1, p.2) ((λ not. sym c.parts.invariant.exact ∙ loop_fails g.P.Part.follows g.P.Part.grammar (map g.P.Part.view.of c.parts.out.items) c.parts.parser.left begun (refused_read g.P.Part.view.may_own g.P.Part.view.bare _ _ c.in_err-take.ensures.reads.exact not)), (λ m. (not_bare g.P.Part.follows g.P.Part.grammar (map g.P.Part.view.of c.parts.out.items) c.parts.parser.left _ begun c.parts.invariant.exact)));
+        exact = rw (p.1, p.2) ((λ not. sym c.parts.invariant.exact ∙ loop_fails g.P.Part.follows g.P.Part.grammar (map g.P.Part.view.of c.parts.out.items) c.parts.parser.left begun (refused_read g.P.Part.view.may_use_heap g.P.Part.view.heapless _ _ c.in_err-take.ensures.reads.exact not)), (λ m. (not_heapless g.P.Part.follows g.P.Part.grammar (map g.P.Part.view.of c.parts.out.items) c.parts.parser.left _ begun c.parts.invariant.exact)));
         counts = search rules;
         cost = search (rules, costs_then, quiet_costs);
         settings = search rules;
@@ -51,7 +47,7 @@ returns-in_err-push_into g c =
     let p = err_from_is_err_and c.from_residual-in_err-push_into.result c.from_residual-in_err-push_into.ensures.1 in
     record {
       reads = record {
-        exact = rw p.1 ((λ not. absurd (not (ap (λ (e : Error). e.fault) p.2 ∙ c.in_err-push_into.ensures.0))), (λ m. (not_bare g.P.Part.follows g.P.Part.grammar (map g.P.Part.view.of c.parts.out.items) c.parts.parser.left _ (sym c.follows.ensures ∙ c.parts-test.true) c.parts.invariant.exact)));
+        exact = rw p.1 ((λ not. absurd (not (ap (λ (e : Error). e.fault) p.2 ∙ c.in_err-push_into.ensures.0))), (λ m. (not_heapless g.P.Part.follows g.P.Part.grammar (map g.P.Part.view.of c.parts.out.items) c.parts.parser.left _ (sym c.follows.ensures ∙ c.parts-test.true) c.parts.invariant.exact)));
         counts = search rules;
         cost = search (rules, costs_then, quiet_costs);
         settings = search rules;

@@ -1,21 +1,16 @@
 use Rattle.std.proofs.Common.{rules, ◌≡◌, refl, sym, ap, ◌∙◌}
 use Rattle.std.proofs.lemmas.Result.{err_from_is_err_and}
-use Rattle.wat_tokens.specs.Adding.{add_rest}
-use Rattle.wat_tokens.specs.Laws.Many.{adding_goes_on, adding_ends, adding_fails, adding_takes}
-use Rattle.wat_types.specs.Group.{FuncTy, empty_function, func_group, group_follows}
-use Rattle.wat_types.specs.Laws.Group.{func_group_consumes}
-use Rattle.wat_types.specs.Order.{add}
-use Rattle.wat_types.specs.Function.{function_view}
-use Rattle.wat_types.specs.FunctionSpells.{func_groups}
+use Rattle.wat_types.specs.Prelude.{add_rest, adding_goes_on, adding_fails, FunctionTypeModel, empty_function, func_group, group_follows, func_group_consumes, add, function_view, func_groups}
+use Rattle.wat_tokens.specs.Laws.Many.{adding_ends, adding_takes}
 use Rattle.wat_types.proofs.FunctionFront.{function_begins_at}
-use Rattle.wat_types.proofs.FunctionGroups.{groups_not_bare}
+use Rattle.wat_types.proofs.FunctionGroups.{groups_not_heapless}
 use Rattle.wat_types.proofs.function.read_groups.Goals as goal
 
 pub groups-init : goal.groups-init
 groups-init c =
     let e : function_view c.empty-found.result ≡ empty_function = rw (c.empty-found.ensures.params, c.empty-found.ensures.results) refl in
     record {
-      exact = ap (λ (u : FuncTy). add_rest add u ((func_groups c.args.labels).reads c.args.parser.now.left)) e ∙ function_begins_at c.args.labels c.args.parser.now.left;
+      exact = ap (λ (u : FunctionTypeModel). add_rest add u ((func_groups c.args.labels).reads c.args.parser.now.left)) e ∙ function_begins_at c.args.labels c.args.parser.now.left;
       counts = search rules;
       turned = search rules;
       cost = search rules;
@@ -42,7 +37,7 @@ returns-in_err-read_group c =
     let p = err_from_is_err_and c.from_residual.result c.from_residual.ensures.1 in
     record {
       reads = record {
-        exact = rw (p.1, p.2) ((λ not. sym c.groups.invariant.exact ∙ adding_fails add group_follows (func_group c.args.labels) (func_group_consumes c.args.labels) (function_view c.groups.found) c.groups.parser.left begun (c.in_err-read_group.ensures.reads.exact.0 not)), (λ m. groups_not_bare c.args.labels (function_view c.groups.found) c.groups.parser.left _ begun (c.in_err-read_group.ensures.reads.exact.1 m) c.groups.invariant.exact));
+        exact = rw (p.1, p.2) ((λ not. sym c.groups.invariant.exact ∙ adding_fails add group_follows (func_group c.args.labels) (func_group_consumes c.args.labels) (function_view c.groups.found) c.groups.parser.left begun (c.in_err-read_group.ensures.reads.exact.0 not)), (λ m. groups_not_heapless c.args.labels (function_view c.groups.found) c.groups.parser.left _ begun (c.in_err-read_group.ensures.reads.exact.1 m) c.groups.invariant.exact));
         counts = search rules;
         cost = search rules;
         settings = search rules;

@@ -1,10 +1,5 @@
-use Rattle.std.proofs.Common.{◌≡◌, length}
-use Rattle.std.specs.Prelude.{◌≤◌, ◌+◌}
-use Rattle.wat_tokens.specs.Adding.{add_rest}
-use Rattle.wat_tokens.specs.Counts.{Carries, Quiet, SameSettings}
-use Rattle.wat_types.specs.Order.{add}
-use Rattle.wat_types.specs.Function.{function_view, function_groups}
-use Rattle.wat_types.specs.FunctionSpells.{func_groups}
+use Rattle.std.specs.Prelude.{◌≡◌, length, ◌≤◌, ◌+◌}
+use Rattle.wat_types.specs.Prelude.{add_rest, Carries, Quiet, SameSettings, add, function_view, function_groups, func_groups}
 use Rattle.wat_types.proofs.function.read_groups.Given as goal
 
 abbrev pub invariant-groups : goal.invariant-groups

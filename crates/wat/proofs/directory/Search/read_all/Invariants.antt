@@ -1,4 +1,4 @@
-use Rattle.std.proofs.Common.{◌≡◌}
+use Rattle.std.specs.Prelude.{◌≡◌}
 use Rattle.wat.proofs.directory.Search.read_all.Given as goal
 
 abbrev pub invariant-loop : goal.invariant-loop

@@ -1,8 +1,7 @@
 use Rattle.std.proofs.Common.{rules, Ok, ap, ◌∙◌}
 use Rattle.std.proofs.lemmas.Result.{err_from_is_err_and}
-use Rattle.wat_expr.specs.Flat.{no_output}
-use Rattle.wat_expr.specs.FoldedProduction.{folded_instruction}
-use Rattle.wat_expr.proofs.FoldedLoop.{is_some, is_none, going_begins, going_on, going_smaller, innermost, going_halts, going_ends, folded_found, refused_first, begun, not_begun, no_word, read_folded, read_not_bare}
+use Rattle.wat_expr.specs.Prelude.{no_output, folded_instruction, lparen_is}
+use Rattle.wat_expr.proofs.FoldedLoop.{is_some, is_none, going_begins, going_on, going_smaller, innermost, going_halts, going_ends, folded_found, refused_first, not_begun, no_word, read_folded, read_not_heapless}
 use Rattle.wat_expr.proofs.Heights.{refused_turns}
 use Rattle.wat_expr.proofs.Whole.{read_accepted}
 use Rattle.wat_expr.proofs.expression.Expression.parse_folded_instruction.Goals as goal
@@ -21,7 +20,7 @@ pub returns-in_err-open_group-clause-exact : goal.returns-in_err-open_group-clau
 unfolding folded_instruction
 returns-in_err-open_group-clause-exact c =
     let p = err_from_is_err_and c.from_residual-in_err-open_group.result c.from_residual-in_err-open_group.ensures.1 in
-    rw (p.1, p.2) ((λ not. no_word _ _ (begun _ _ _ c.in_ok-open.ensures.reads.exact) (c.in_err-open_group.ensures.exact not)), (λ m. read_not_bare c.args.parser.now.left))
+    rw (p.1, p.2) ((λ not. no_word _ _ (lparen_is _ _ _ c.in_ok-open.ensures.reads.exact) (c.in_err-open_group.ensures.exact not)), (λ m. read_not_heapless c.args.parser.now.left))
 
 pub returns-in_err-open_group-clause-only : goal.returns-in_err-open_group-clause-only
 unfolding folded_instruction
@@ -36,7 +35,7 @@ pub returns-in_err-turn-clause-exact : goal.returns-in_err-turn-clause-exact
 unfolding folded_instruction
 returns-in_err-turn-clause-exact c =
     let p = err_from_is_err_and c.from_residual-in_err-turn.result c.from_residual-in_err-turn.ensures.1 in
-    rw (p.1, p.2) ((λ not. going_halts _ _ _ _ _ c.tick.ensures.only c.groups.invariant (is_some _ _ c.is_empty.ensures c.groups-test.true) (c.in_err-turn.ensures.turned not)), (λ m. read_not_bare c.args.parser.now.left))
+    rw (p.1, p.2) ((λ not. going_halts _ _ _ _ _ c.tick.ensures.only c.groups.invariant (is_some _ _ c.is_empty.ensures c.groups-test.true) (c.in_err-turn.ensures.turned not)), (λ m. read_not_heapless c.args.parser.now.left))
 
 pub returns-in_err-turn-clause-only : goal.returns-in_err-turn-clause-only
 unfolding folded_instruction
@@ -51,7 +50,7 @@ returns-in_err-turn-clause-counts c =
 pub groups-init : goal.groups-init
 groups-init c =
     let x = c.in_ok-open_group.ensures.exact in
-    going_begins _ _ _ _ _ x.0 _ _ _ _ (rw c.new-open_groups.ensures at x.2) (c.empty-out.ensures ∙ ap no_output c.tracks.ensures) c.height.ensures c.note_height.ensures c.held.ensures c.note_held.ensures.only (begun _ _ _ c.in_ok-open.ensures.reads.exact) c.in_ok-open.ensures.reads.counts.0 c.in_ok-open.ensures.reads.cost c.in_ok-open.ensures.reads.settings x.1 c.in_ok-open_group.ensures.steady.counts c.in_ok-open_group.ensures.steady.stays c.in_ok-open_group.ensures.steady.settings c.note_held.ensures.counts
+    going_begins _ _ _ _ _ x.0 _ _ _ _ (rw c.new-open_groups.ensures at x.2) (c.empty-out.ensures ∙ ap no_output c.tracks.ensures) c.height.ensures c.note_height.ensures c.held.ensures c.note_held.ensures.only (lparen_is _ _ _ c.in_ok-open.ensures.reads.exact) c.in_ok-open.ensures.reads.counts.0 c.in_ok-open.ensures.reads.cost c.in_ok-open.ensures.reads.settings x.1 c.in_ok-open_group.ensures.steady.counts c.in_ok-open_group.ensures.steady.stays c.in_ok-open_group.ensures.steady.settings c.note_held.ensures.counts
 
 pub turn-requires : goal.turn-requires
 turn-requires c = innermost _ c.groups.invariant.unhinted (is_some _ _ c.is_empty.ensures c.groups-test.true)

@@ -1,4 +1,4 @@
-use Rattle.std.proofs.Common.{length}
+use Rattle.std.specs.Prelude.{length}
 use Rattle.wat_expr.specs.Flat.{flat}
 use Rattle.wat_expr.proofs.FoldedLoop.{Going}
 use Rattle.wat_expr.proofs.expression.Expression.parse_folded_instruction.Given as goal

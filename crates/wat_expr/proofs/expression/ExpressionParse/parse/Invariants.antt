@@ -1,4 +1,4 @@
-use Rattle.std.proofs.Common.{length}
+use Rattle.std.specs.Prelude.{length}
 use Rattle.wat_expr.proofs.Whole.{Reading}
 use Rattle.wat_expr.proofs.expression.ExpressionParse.parse.Given as goal
 

@@ -1,4 +1,4 @@
-use Rattle.std.proofs.Common.{◌≡◌, ◌∷◌}
+use Rattle.std.specs.Prelude.{◌≡◌, ◌∷◌}
 use Rattle.wat_expr.specs.OpenGroups.{InArm, AfterElse}
 use Rattle.wat_expr.proofs.Turns.{else_wanted}
 use Rattle.wat_expr.proofs.ReadTurns.{else_read}

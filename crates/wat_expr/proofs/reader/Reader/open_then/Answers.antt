@@ -1,4 +1,4 @@
-use Rattle.std.proofs.Common.{refl}
+use Rattle.std.specs.Prelude.{refl}
 use Rattle.wat_expr.proofs.Turns.{unpending}
 use Rattle.wat_expr.proofs.ReadTurns.{then_read}
 use Rattle.wat_expr.proofs.reader.Reader.open_then.Goals as goal

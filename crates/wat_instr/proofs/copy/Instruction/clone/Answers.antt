@@ -1,31 +1,6 @@
 use Rattle.std.proofs.Common.{rules}
+use Rattle.wat_instr.proofs.copy.Instruction.clone.Goals.{in-Scalar, in-Table+in-Ok, in-Memory+in-Ok-clone-2, in-Struct+in-Ok-clone-3, in-ArrayInit+in-Ok-clone-4, in-OrderedIndex+in-Ok-clone-7, in-OrderedTable+in-Ok-clone-8, in-OrderedStruct+in-Ok-clone-9, in-Lane+in-Ok-clone-11, in-Vector, in-memory_init+in-Ok-clone-12, in-memory_copy+in-Ok-clone-13, in-table_init+in-Ok-clone-14, in-table_copy+in-Ok-clone-15, in-ref_null, in-array_new_fixed+in-Ok-clone-16, in-array_new_data+in-Ok-clone-17, in-array_new_elem+in-Ok-clone-18, in-array_fill+in-Ok-clone-19, in-array_copy+in-Ok-clone-20, in-ref_test+in-Ok-clone-21, in-ref_cast+in-Ok-clone-22, in-i32_const, in-i64_const, in-f32_const, in-f64_const, in-atomic_fence, in-cont_bind+in-Ok-clone-25, in-switch+in-Ok-clone-26, in-ref_cast_desc_eq+in-Ok-clone-27}
 use Rattle.wat_instr.proofs.copy.Instruction.clone.Goals as goal
-use Rattle.wat_instr.proofs.copy.Instruction.clone.Goals.{in-Scalar, in-Table+in-Ok}
-use Rattle.wat_instr.proofs.copy.Instruction.clone.Goals.{in-Memory+in-Ok-clone-2}
-use Rattle.wat_instr.proofs.copy.Instruction.clone.Goals.{in-Struct+in-Ok-clone-3}
-use Rattle.wat_instr.proofs.copy.Instruction.clone.Goals.{in-ArrayInit+in-Ok-clone-4}
-use Rattle.wat_instr.proofs.copy.Instruction.clone.Goals.{in-OrderedIndex+in-Ok-clone-7}
-use Rattle.wat_instr.proofs.copy.Instruction.clone.Goals.{in-OrderedTable+in-Ok-clone-8}
-use Rattle.wat_instr.proofs.copy.Instruction.clone.Goals.{in-OrderedStruct+in-Ok-clone-9}
-use Rattle.wat_instr.proofs.copy.Instruction.clone.Goals.{in-Lane+in-Ok-clone-11, in-Vector}
-use Rattle.wat_instr.proofs.copy.Instruction.clone.Goals.{in-memory_init+in-Ok-clone-12}
-use Rattle.wat_instr.proofs.copy.Instruction.clone.Goals.{in-memory_copy+in-Ok-clone-13}
-use Rattle.wat_instr.proofs.copy.Instruction.clone.Goals.{in-table_init+in-Ok-clone-14}
-use Rattle.wat_instr.proofs.copy.Instruction.clone.Goals.{in-table_copy+in-Ok-clone-15}
-use Rattle.wat_instr.proofs.copy.Instruction.clone.Goals.{in-ref_null}
-use Rattle.wat_instr.proofs.copy.Instruction.clone.Goals.{in-array_new_fixed+in-Ok-clone-16}
-use Rattle.wat_instr.proofs.copy.Instruction.clone.Goals.{in-array_new_data+in-Ok-clone-17}
-use Rattle.wat_instr.proofs.copy.Instruction.clone.Goals.{in-array_new_elem+in-Ok-clone-18}
-use Rattle.wat_instr.proofs.copy.Instruction.clone.Goals.{in-array_fill+in-Ok-clone-19}
-use Rattle.wat_instr.proofs.copy.Instruction.clone.Goals.{in-array_copy+in-Ok-clone-20}
-use Rattle.wat_instr.proofs.copy.Instruction.clone.Goals.{in-ref_test+in-Ok-clone-21}
-use Rattle.wat_instr.proofs.copy.Instruction.clone.Goals.{in-ref_cast+in-Ok-clone-22}
-use Rattle.wat_instr.proofs.copy.Instruction.clone.Goals.{in-i32_const, in-i64_const}
-use Rattle.wat_instr.proofs.copy.Instruction.clone.Goals.{in-f32_const, in-f64_const}
-use Rattle.wat_instr.proofs.copy.Instruction.clone.Goals.{in-atomic_fence}
-use Rattle.wat_instr.proofs.copy.Instruction.clone.Goals.{in-cont_bind+in-Ok-clone-25}
-use Rattle.wat_instr.proofs.copy.Instruction.clone.Goals.{in-switch+in-Ok-clone-26}
-use Rattle.wat_instr.proofs.copy.Instruction.clone.Goals.{in-ref_cast_desc_eq+in-Ok-clone-27}
 
 pub returns : goal.returns
 returns c = record {

@@ -1,7 +1,5 @@
 use Rattle.std.proofs.Common.{arith, length, ap, sym, ◌∙◌, ◌≡◌, ◌<◌, ℕ}
-use Rattle.std.proofs.lemmas.List.{length-map}
-use Rattle.std.proofs.Math.ListN.{set}
-use Rattle.wat_lexer.specs.View.{entry_of, entries_of, skipping, own_number}
+use Rattle.wat_lexer.specs.Laws.Prelude.{length-map, set, entry_of, entries_of, skipping, own_number}
 use Rattle.wat_lexer.proofs.Entries.{skips_told, annotation_there, annotation_room, annotation_number}
 use Rattle.wat_lexer.proofs.tokens.Tokens.set_skips.Goals as goal
 

@@ -1,8 +1,5 @@
-use Rattle.std.proofs.Common.{arith, length, ap, sym, ◌∙◌, ◌≡◌, ◌<◌}
-use Rattle.std.specs.Prelude.{true}
-use Rattle.std.proofs.lemmas.List.{length-map}
-use Rattle.wat_lexer.specs.View.{entry_of, is_annotation_kind, no_entry, skip}
-use Rattle.std.proofs.Math.ListN.{get_or}
+use Rattle.std.proofs.Common.{arith, length, ap, sym, ◌∙◌, ◌≡◌, ◌<◌, true}
+use Rattle.wat_lexer.specs.Laws.Prelude.{get_or, length-map, entry_of, is_annotation_kind, no_entry, skip}
 use Rattle.wat_lexer.proofs.Entries.{annotation_room, annotation_number, annotation_told}
 use Rattle.wat_lexer.proofs.tokens.Tokens.skip.Goals as goal
 

@@ -1,7 +1,6 @@
 use Rattle.std.proofs.Common.{rules, ◌∙◌, sym, ap}
+use Rattle.wat_mnemonics.specs.Prelude.{some_of, State}
 use Rattle.wat_mnemonics.proofs.WordReads.{reads_word}
-use Rattle.wat_tokens.specs.Production.{some_of}
-use Rattle.wat_tokens.specs.State.{State}
 use Rattle.wat_mnemonics.proofs.op.Op.take.Goals as goal
 
 pub returns-in-Some-clause-reads : goal.returns-in-Some-clause-reads

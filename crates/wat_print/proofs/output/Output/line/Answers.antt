@@ -1,4 +1,4 @@
-use Rattle.std.proofs.Common.{◌*◌}
+use Rattle.std.specs.Prelude.{◌*◌}
 use Rattle.wat_print.specs.Laws.Written.{line_broken}
 use Rattle.wat_print.proofs.output.Output.line.Goals as goal
 

@@ -1,4 +1,4 @@
-use Rattle.std.proofs.Common.{◌≡◌, ◌++◌, drop, false}
+use Rattle.std.specs.Prelude.{◌≡◌, ◌++◌, drop, false}
 use Rattle.wat_print.specs.Text.{quoted_as}
 use Rattle.wat_print.proofs.output.Output.push_bytes.Given as goal
 

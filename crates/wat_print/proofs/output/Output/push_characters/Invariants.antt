@@ -1,4 +1,4 @@
-use Rattle.std.proofs.Common.{◌≡◌}
+use Rattle.std.specs.Prelude.{◌≡◌}
 use Rattle.wat_print.specs.Laws.Characters.{with_characters}
 use Rattle.wat_print.proofs.output.Output.push_characters.Given as goal
 

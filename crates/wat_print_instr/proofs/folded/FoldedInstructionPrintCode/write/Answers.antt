@@ -1,10 +1,7 @@
+use Rattle.std.proofs.Common.{map, rules, sym, ◌∙◌}
 use Rattle.std.proofs.lemmas.Result.{on_ok_weaker}
-use Rattle.std.specs.Prelude.{map}
-use Rattle.std.proofs.Common.{rules, sym, ◌∙◌}
-use Rattle.wat_expr.specs.Expression.{expression_view, hint_view}
-use Rattle.wat_instr.specs.Instruction.{instruction_view}
-use Rattle.wat_print_instr.proofs.FoldedWritten.{folded_written, folded_printable, seen_last}
-use Rattle.wat_print_instr.proofs.FoldedWritten.{hints_none, others_unprintable, last_unprintable}
+use Rattle.wat_print_instr.specs.Prelude.{expression_view, hint_view, instruction_view}
+use Rattle.wat_print_instr.proofs.FoldedWritten.{folded_written, folded_printable, seen_last, hints_none, others_unprintable, last_unprintable}
 use Rattle.wat_print_instr.proofs.folded.FoldedInstructionPrintCode.write.Goals as goal
 
 pub returns : goal.returns

@@ -1,7 +1,6 @@
 use Rattle.std.proofs.Common.{ap, sym, ◌∙◌}
-use Rattle.wat_lexer.specs.View.{placed}
+use Rattle.wat_tokens.specs.Laws.Prelude.{placed, tokens_of-placed}
 use Rattle.wat_tokens.specs.State.{begun}
-use Rattle.wat_lexer.specs.Laws.Kinds.{tokens_of-placed}
 use Rattle.wat_tokens.proofs.parser.Parser.new.Goals as goal
 
 pub returns-clause-fresh : goal.returns-clause-fresh

@@ -1,8 +1,6 @@
-use Rattle.std.proofs.Common.{rules, ◌≡◌, true, false, refl}
-use Rattle.std.specs.Prelude.{codes}
+use Rattle.std.proofs.Common.{rules, ◌≡◌, true, false, refl, codes}
 use Rattle.std.proofs.lemmas.Result.{err_from_is_err_and}
-use Rattle.wat_tokens.specs.Tests.{begins_lparen, begins_group}
-use Rattle.wat_tokens.specs.Index.{begins_index}
+use Rattle.wat_types.specs.Prelude.{begins_lparen, begins_group, begins_index}
 use Rattle.wat_types.proofs.NoGroup.{shared_heap}
 use Rattle.wat_types.proofs.heap.HeapTypeParse.parse.Goals as goal
 

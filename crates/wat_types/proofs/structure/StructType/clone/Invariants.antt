@@ -1,4 +1,4 @@
-use Rattle.std.proofs.Common.{◌≡◌, take}
+use Rattle.std.specs.Prelude.{◌≡◌, take}
 use Rattle.wat_types.proofs.structure.StructType.clone.Given as goal
 
 abbrev pub invariant-fields : goal.invariant-fields

@@ -1,0 +1,5 @@
+pub mod Checked
+pub mod Formatted
+pub mod Notices
+pub mod Outcomes
+pub mod Prelude

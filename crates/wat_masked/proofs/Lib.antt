@@ -1,0 +1,11 @@
+pub mod Again
+pub mod Changes
+pub mod Chars
+pub mod Closing
+pub mod FloatState
+pub mod Rows
+pub mod Seen
+pub mod Starts
+pub mod Tokens
+pub mod MaskedText
+pub mod Writing

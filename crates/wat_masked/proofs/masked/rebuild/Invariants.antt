@@ -1,0 +1,14 @@
+use Rattle.std.specs.Prelude.{string_bytes, ◌≡◌, ◌-◌, ◌≤◌, length, drop, false}
+use Rattle.wat_masked.specs.Prelude.{begins_hidden_group, entry_tokens}
+use Rattle.wat_masked.proofs.Writing.{SoFar}
+use Rattle.wat_masked.proofs.masked.rebuild.Given as goal
+
+abbrev pub invariant-loop-i : goal.invariant-loop-i
+invariant-loop-i l = record {
+  so : SoFar l.text l.tokens (drop l.i l.tokens) l.opened l.row l.done (string_bytes l.out);
+  within : l.i ≤ length l.tokens;
+  visible : begins_hidden_group false (entry_tokens (drop l.i l.tokens)) ≡ false;
+}
+
+abbrev pub decreases-loop-i : goal.decreases-loop-i
+decreases-loop-i l = length l.tokens - l.i

@@ -1,7 +1,0 @@
-use Rattle.std.proofs.Common.{take}
-use Rattle.wat_text.specs.Checked.{AddsDiagnosed}
-use Rattle.wat_text.proofs.checked.add_errors.Given as goal
-
--- the diagnostics of the errors so far were added
-abbrev pub invariant-loop-error : goal.invariant-loop-error
-invariant-loop-error l = AddsDiagnosed l.text (take l.error-index l.errors) l.initial.notices.items l.notices.items

@@ -1,4 +1,0 @@
-pub mod Checked
-pub mod Formatted
-pub mod Notices
-pub mod Outcomes

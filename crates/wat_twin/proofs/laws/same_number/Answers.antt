@@ -1,5 +1,0 @@
-use Rattle.wat_twin.proofs.Tokens.{same_length}
-use Rattle.wat_twin.proofs.laws.same_number.Goals as goal
-
-pub returns : goal.returns
-returns c = same_length

@@ -1,5 +1,0 @@
-use Rattle.wat_twin.proofs.Seen as hidden
-use Rattle.wat_twin.proofs.laws.same_visible.Goals as goal
-
-pub returns : goal.returns
-returns c = hidden.same_visible

@@ -1,6 +1,0 @@
-use Rattle.std.proofs.Common.{◌≡◌, ◌++◌}
-use Rattle.std.specs.Prelude.{replicate, string_bytes}
-use Rattle.wat_twin.proofs.twin.put_spaces.Given as goal
-
-abbrev pub invariant-turns : goal.invariant-turns
-invariant-turns l = string_bytes l.out ≡ string_bytes l.fn.out ++ replicate l.counter 32
