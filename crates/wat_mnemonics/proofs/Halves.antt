@@ -49,7 +49,7 @@ pub few_made : (size p most : ℕ) → IsFew size p most → p ≤ most
 few_made size p most (k, f, s) = omega (arith, f)
 
 -- a comparison was made, or the whole table is left
-pub made_one : (n size left : ℕ) (a b : State) → Probed a b → size ≤ 624 → 624 + 624 * n ≤ size + 624 * a.probes → 624 + 624 * n ≤ left + 624 * b.probes
+pub made_one : (n size left : ℕ) (a b : State) → Probed a b → size ≤ op_count + 1 → op_count + 1 + (op_count + 1) * n ≤ size + (op_count + 1) * a.probes → op_count + 1 + (op_count + 1) * n ≤ left + (op_count + 1) * b.probes
 made_one n size left a b e l h = omega (arith, one_more a b e, l, h)
 
 -- if only the count of comparisons had changed, only that count has changed after more comparisons

@@ -5,7 +5,7 @@ use Rattle.wat_mnemonics.specs.Table.{op_count}
 
 -- the entries before base are less than the text, and all from base + size - 1 on are greater
 pub record IsWithin (base size : ℕ) (text : List ℕ) : Type 0 where
-  pub bound : base + size ≤ 624
+  pub bound : base + size ≤ op_count + 1
   pub less : (k : ℕ) → k < base → IsBelow (get_or words k []) text
   pub more : (k : ℕ) → base + size ≤ k + 1 → k < op_count → IsAbove (get_or words k []) text
 

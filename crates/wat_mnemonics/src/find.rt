@@ -8,6 +8,7 @@ ghost use Rattle.wat_mnemonics.specs.declared.op.Op.{Op as AnyOp};
 use crate::keys::{KEYS, key_of};
 use crate::op::Op;
 use crate::same_key::find_whole;
+use crate::table::OPS;
 use wat_tokens::{Error, Fault, Parser, Result};
 
 /// Returns the instruction with the mnemonic `text`, or None if no instruction has this mnemonic.
@@ -24,7 +25,7 @@ pub fn find(parser: &mut Parser<'_>, text: &str) -> Option<Op>
 {
     let key = key_of(text);
     let mut base = 0;
-    let mut size = 624;
+    let mut size = OPS.len() + 1;
     // (the entries before base are less, and the entries from base + size - 1 on are greater)
     'halves: while size > 1 {
         let half = size / 2;

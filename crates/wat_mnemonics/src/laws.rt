@@ -1,7 +1,7 @@
 //! Laws of the table of mnemonics. The functions do nothing; their contracts are the laws.
 
 ghost use Rattle.std.specs.Prelude.{◌≡◌, ◌<◌, ◌++◌, ℕ, List, Some, IsTrue, map};
-ghost use Rattle.wat_mnemonics.specs.Prelude.{op_word, op_row, op_opcode, bytes, rises};
+ghost use Rattle.wat_mnemonics.specs.Prelude.{op_word, op_row, op_opcode, op_count, bytes, rises};
 ghost use Rattle.wat_mnemonics.specs.declared.table.TheConstants.{OPS};
 ghost use Rattle.wat_mnemonics.specs.declared.op.Op.{Op as AnyOp};
 
@@ -10,16 +10,16 @@ pub fn words_in_order()
     ensures { IsTrue (rises (map op_word OPS)) }
 {}
 
-/// Two different instructions have different mnemonics and different rows. Each of the 623 rows has
-/// an instruction.
+/// Two different instructions have different mnemonics and different rows. Each number below the number of
+/// instructions is the row of one.
 pub fn one_mnemonic()
     // Two instructions with the same mnemonic are the same.
     ensures word { (x y : AnyOp) → op_word x ≡ op_word y → x ≡ y }
     // Two instructions with the same row are the same.
     ensures row { (x y : AnyOp) → op_row x ≡ op_row y → x ≡ y }
-    // There are 623 rows, and each has an instruction.
-    ensures below { (x : AnyOp) → op_row x < 623 }
-    ensures each { (n : ℕ) → n < 623 → (x : AnyOp) × (op_row x ≡ n) }
+    // There are as many rows as instructions, and each row has an instruction.
+    ensures below { (x : AnyOp) → op_row x < op_count }
+    ensures each { (n : ℕ) → n < op_count → (x : AnyOp) × (op_row x ≡ n) }
 {}
 
 /// No opcode is a prefix of another instruction's opcode.

@@ -1,4 +1,4 @@
-//! The mnemonics and opcodes of the 623 instructions of the WebAssembly text format, without
+//! The mnemonics and opcodes of the instructions of the WebAssembly text format, without
 //! operands (WebAssembly Core Specification, Text Format, "Instructions").
 //!
 //! An [`Op`](op::Op) is an instruction without its operand. It has a mnemonic, and an opcode if

@@ -1,7 +1,7 @@
 //! The search in a part of the table, after an entry with the text's key was found.
 
 ghost use Rattle.std.specs.Prelude.{IfNone, slice_index_or, ◌≡◌, ◌≢◌, ◌<◌, ◌≤◌, ◌+◌, ◌-◌, ◌/◌, [], ℕ, IfSome, slice_index};
-ghost use Rattle.wat_mnemonics.specs.Prelude.{IsWithin, IsFew, op_word, cmp, first, words, all_ops, Carries};
+ghost use Rattle.wat_mnemonics.specs.Prelude.{IsWithin, IsFew, op_word, cmp, first, words, all_ops, op_count, Carries};
 ghost use Rattle.wat_mnemonics.specs.Keys.{key as key_of};
 ghost use Rattle.wat_mnemonics.specs.declared.op.Op.{Op as AnyOp};
 
@@ -13,7 +13,7 @@ use wat_tokens::Parser;
 
 /// Returns the entry of the table at an index.
 fn op_at(index: usize) -> Op
-    requires { index < 623 }
+    requires { index < op_count }
     ensures { result ≡ slice_index_or all_ops index first }
 {
     OPS[index]
@@ -22,7 +22,7 @@ fn op_at(index: usize) -> Op
 /// Compares the word of an entry with a text that has the same key.
 #[inline(always)]
 fn compared_whole(index: usize, text: &str) -> Ordering
-    requires index { index < 623 }
+    requires index { index < op_count }
     requires same { slice_index KEYS index ≡ key_of text.now }
     ensures { result ≡ cmp (slice_index_or words index []) text.now }
 {
@@ -44,7 +44,7 @@ fn compared_whole(index: usize, text: &str) -> Ordering
 
 /// Compares the word of an entry with a text. If their keys differ, compares only the keys.
 fn compared(index: usize, key: u64, text: &str) -> Ordering
-    requires index { index < 623 }
+    requires index { index < op_count }
     requires key { key ≡ key_of text.now }
     ensures { result ≡ cmp (slice_index_or words index []) text.now }
 {
