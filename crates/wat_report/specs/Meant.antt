@@ -1,7 +1,8 @@
 -- The words of fields and types, for hints.
 use Rattle.std.specs.Prelude.{ℕ, List, codes}
+use Rattle.wat_types.specs.Reference.{short_word}
 use Rattle.wat_report.specs.declared.meant.Keyword.{Keyword}
-use Rattle.wat_report.specs.declared.meant.Keyword.TheVariants.{TypeField, Rec, Import, Func, Table, Memory, Global, Export, Start, Elem, Data, Tag, I32, I64, F32, F64, V128, FuncRef, ExternRef, ExnRef, ContRef, AnyRef, EqRef, StructRef, ArrayRef, I31Ref, NullFuncRef, NullExternRef, NullExnRef, NullContRef, NullRef}
+use Rattle.wat_report.specs.declared.meant.Keyword.TheVariants.{TypeField, Rec, Import, Func, Table, Memory, Global, Export, Start, Elem, Data, Tag, I32, I64, F32, F64, V128, Short}
 
 -- the word
 abbrev pub keyword_text : Keyword → List ℕ
@@ -22,17 +23,4 @@ keyword_text I64 = codes "i64"
 keyword_text F32 = codes "f32"
 keyword_text F64 = codes "f64"
 keyword_text V128 = codes "v128"
-keyword_text FuncRef = codes "funcref"
-keyword_text ExternRef = codes "externref"
-keyword_text ExnRef = codes "exnref"
-keyword_text ContRef = codes "contref"
-keyword_text AnyRef = codes "anyref"
-keyword_text EqRef = codes "eqref"
-keyword_text StructRef = codes "structref"
-keyword_text ArrayRef = codes "arrayref"
-keyword_text I31Ref = codes "i31ref"
-keyword_text NullFuncRef = codes "nullfuncref"
-keyword_text NullExternRef = codes "nullexternref"
-keyword_text NullExnRef = codes "nullexnref"
-keyword_text NullContRef = codes "nullcontref"
-keyword_text NullRef = codes "nullref"
+keyword_text (Short heap) = short_word heap

@@ -3,6 +3,10 @@
 ghost use Rattle.std.specs.Prelude.{◌≡◌};
 ghost use Rattle.wat_report.specs.Meant.{keyword_text};
 
+use wat_tokens::words::NamedByKeyword;
+use wat_types::AbstractHeapType;
+use wat_types::reference::Shorthand;
+
 /// A word that begins a field, or that is a type.
 #[derive(Clone, Copy, Debug, PartialEq, Eq)]
 pub enum Keyword {
@@ -23,20 +27,8 @@ pub enum Keyword {
     F32,
     F64,
     V128,
-    FuncRef,
-    ExternRef,
-    ExnRef,
-    ContRef,
-    AnyRef,
-    EqRef,
-    StructRef,
-    ArrayRef,
-    I31Ref,
-    NullFuncRef,
-    NullExternRef,
-    NullExnRef,
-    NullContRef,
-    NullRef,
+    /// The shorthand of a reference type, by its heap type.
+    Short(AbstractHeapType),
 }
 
 /// The words with which a module's fields begin.
@@ -62,20 +54,20 @@ pub static TYPE_WORDS: [Keyword; 19] = [
     Keyword::F32,
     Keyword::F64,
     Keyword::V128,
-    Keyword::FuncRef,
-    Keyword::ExternRef,
-    Keyword::ExnRef,
-    Keyword::ContRef,
-    Keyword::AnyRef,
-    Keyword::EqRef,
-    Keyword::StructRef,
-    Keyword::ArrayRef,
-    Keyword::I31Ref,
-    Keyword::NullFuncRef,
-    Keyword::NullExternRef,
-    Keyword::NullExnRef,
-    Keyword::NullContRef,
-    Keyword::NullRef,
+    Keyword::Short(AbstractHeapType::Func),
+    Keyword::Short(AbstractHeapType::Extern),
+    Keyword::Short(AbstractHeapType::Exn),
+    Keyword::Short(AbstractHeapType::Cont),
+    Keyword::Short(AbstractHeapType::Any),
+    Keyword::Short(AbstractHeapType::Eq),
+    Keyword::Short(AbstractHeapType::Struct),
+    Keyword::Short(AbstractHeapType::Array),
+    Keyword::Short(AbstractHeapType::I31),
+    Keyword::Short(AbstractHeapType::NoFunc),
+    Keyword::Short(AbstractHeapType::NoExtern),
+    Keyword::Short(AbstractHeapType::NoExn),
+    Keyword::Short(AbstractHeapType::NoCont),
+    Keyword::Short(AbstractHeapType::None),
 ];
 
 impl Keyword {
@@ -101,20 +93,7 @@ impl Keyword {
             Keyword::F32 => "f32",
             Keyword::F64 => "f64",
             Keyword::V128 => "v128",
-            Keyword::FuncRef => "funcref",
-            Keyword::ExternRef => "externref",
-            Keyword::ExnRef => "exnref",
-            Keyword::ContRef => "contref",
-            Keyword::AnyRef => "anyref",
-            Keyword::EqRef => "eqref",
-            Keyword::StructRef => "structref",
-            Keyword::ArrayRef => "arrayref",
-            Keyword::I31Ref => "i31ref",
-            Keyword::NullFuncRef => "nullfuncref",
-            Keyword::NullExternRef => "nullexternref",
-            Keyword::NullExnRef => "nullexnref",
-            Keyword::NullContRef => "nullcontref",
-            Keyword::NullRef => "nullref",
+            Keyword::Short(heap) => Shorthand(heap).word(),
         }
     }
 }
