@@ -7,7 +7,7 @@ ghost use Rattle.wat_answers.specs.declared.notice.Notice.TheVariants.{Found};
 
 use crate::expected::expected_at;
 use crate::notice::Notice;
-use crate::outcome::module_of;
+use crate::reading::module_of;
 use bumpalo::Bump;
 use std::alloc::{AllocError, Global};
 use wat_core::wat_lexer::cut::cut;

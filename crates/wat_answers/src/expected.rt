@@ -4,7 +4,7 @@
 //! candidate is possible if the text is then refused at its end, or not at all. This is not proved:
 //! no contract describes the position of a fault.
 
-use crate::outcome::module_of;
+use crate::reading::module_of;
 use crate::shortened::short_text;
 use crate::words::INNER_WORDS;
 use bumpalo::Bump;

@@ -12,6 +12,7 @@ mod expected;
 mod formatted;
 pub mod notice;
 mod outcome;
+mod reading;
 mod shortened;
 pub mod task;
 mod words;

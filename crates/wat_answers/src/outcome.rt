@@ -1,7 +1,7 @@
 //! The answers for one text.
 
-ghost use Rattle.std.specs.Prelude.{◌≡◌, ◌≢◌, IfOk, IfErr};
-ghost use Rattle.wat_answers.specs.Prelude.{ModuleModel, module_view, SpellsModule, Memory, offset_of};
+ghost use Rattle.std.specs.Prelude.{◌≡◌, ◌≢◌, IfOk};
+ghost use Rattle.wat_answers.specs.Prelude.{module_view, Memory, offset_of};
 ghost use Rattle.wat_answers.specs.Outcomes.{AnswersBytes, AnswersFound, AnswersText, AnswersReadBytes, IsAnswer, WasRead};
 ghost use Rattle.wat_answers.specs.Notices.{notice_json, notice_report};
 ghost use Rattle.wat_answers.specs.declared.task.Task.TheVariants.{Print};
@@ -9,10 +9,11 @@ ghost use Rattle.wat_report.specs.Report.{IsReport, report_text};
 
 use crate::checked::checked_bytes;
 use crate::notice::{json_of, report_of};
+use crate::reading::module_of;
 use crate::task::Task;
 use bumpalo::Bump;
 use std::alloc::{AllocError, Global};
-use wat_core::{Error, Fault, Module, read_module};
+use wat_core::{Error, Fault, Module};
 use wat_print::{Layout, Refused};
 use wat_print_module::print_module;
 use wat_report::{Diagnostic, add_diagnostic, add_report, text_or_diagnostic};
@@ -69,19 +70,6 @@ pub(crate) fn refused(
     let mut report = Vec::new(alloc);
     add_report(&mut report, name, text, error)?;
     Ok((report, 1))
-}
-
-/// Parses a text as a module.
-pub(crate) fn module_of<'a>(
-    alloc: Global,
-    text: &'a str,
-    arena: &'a Bump,
-) -> Result<Module<'a>, Error>
-    ensures found { IfOk result (λ m. SpellsModule text.now (module_view m)) }
-    ensures none { IfErr result (λ e. e.fault ≢ Memory → (m : ModuleModel)
-        → SpellsModule text.now m → ⊥) }
-{
-    read_module(alloc, text, arena)
 }
 
 /// Returns the listing or the print of a text, and the status 0; or the report of its error, and the
