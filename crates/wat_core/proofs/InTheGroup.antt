@@ -1,11 +1,12 @@
 -- A module in its group: the visible tokens around it if no annotation is known, and if the five names are known.
 use Rattle.std.proofs.Common.{◌≡◌, ◌≢◌, ℕ, ◌+◌, Bool, true, false, List, [], ◌∷◌, ◌++◌, length, drop, Some, None, refl, sym, ap, ◌∙◌, subst, inl, inr, Option, Result, Ok, Err, IfOk, IfErr, MatchResult, suc}
 use Rattle.wat_fields.specs.Prelude.{one_reads, annotated, as_lparen}
-use Rattle.wat_core.specs.Prelude.{cases_Bool, ModuleModel, module_, IsModule, SpellsModule, seen_behind, none_seen, IsCut, begins_hidden_group, shuts, deeper, visible, visible_tokens, hidden_count_at, hidden_count, State, behind, ends, Token, Placed, LParen, RParen, tokens_of}
+use Rattle.wat_core.specs.Prelude.{cases_Bool, ModuleModel, module_, IsModule, SpellsModule, seen_behind, none_seen, IsCut, begins_hidden_group, shuts, deeper, visible, visible_tokens, hidden_count_at, hidden_count, State, behind, ends, Token, Placed, LParen, RParen, tokens_of, seen, behind_one}
 use Rattle.wat_tokens.specs.State.{IsFresh}
 use Rattle.wat_core.specs.Laws.Sight.{begins_hidden_anyway}
 use Rattle.wat_tokens.specs.Production.{Front}
 use Rattle.wat_tokens.specs.Laws.State.{behind_then}
+use Rattle.wat_tokens.specs.Laws.Visible.{tokens_behind}
 use Rattle.wat_tokens.specs.Laws.Groups.{lparen_is}
 
 -- ---- a `)` that is visible with the five names is visible without them, at the same place
@@ -79,17 +80,16 @@ pub record Opened (text : List ℕ) (q : State) : Type 0 where
   pub cut : IsCut text all
   pub left : List Token
   pub opens : visible_tokens false (tokens_of all) ≡ LParen ∷ left
-  pub rest : q.rest ≡ behind false 1 (tokens_of all)
+  pub rest : tokens_of q.rest ≡ behind false 1 (tokens_of all)
   pub off : q.known ≡ false
 
-pub opened : (text : List ℕ) (p q : State) (u : Unit {0}) → IsFresh text p → one_reads as_lparen p.left ≡ Some (u, q.left) → q.rest ≡ drop (hidden_count p.known p.rest + 1) p.rest → q.known ≡ p.known → Opened text q
-unfolding behind
+pub opened : (text : List ℕ) (p q : State) (u : Unit {0}) → IsFresh text p → one_reads as_lparen p.left ≡ Some (u, q.left) → q.rest ≡ behind_one p.known p.rest → q.known ≡ p.known → Opened text q
 opened text p q u (ts, cut, is) reads stands known = record {
   all = ts;
   cut = cut;
   left = q.left;
   opens = sym (ap (λ (s : State). s.left) is) ∙ lparen_is p.left q.left u reads;
-  rest = stands ∙ ap (λ (s : State). drop (hidden_count s.known s.rest + 1) s.rest) is;
+  rest = ap tokens_of (stands ∙ ap (λ (s : State). behind_one s.known s.rest) is) ∙ tokens_behind false ts;
   off = known ∙ ap (λ (s : State). s.known) is;
 }
 
@@ -99,16 +99,16 @@ OneCut = (text : List ℕ) (ts us : List Placed) → IsCut text ts → IsCut tex
 
 -- q is after `(`, and e is after the tokens that were taken then
 module _ (text : List ℕ) (q e : State) (o : Opened text q) where
-  off_too : e.known ≡ q.known → e.left ≡ visible_tokens e.known e.rest → e.left ≡ visible_tokens false e.rest
-  off_too known seen = seen ∙ ap (λ (k : Bool). visible_tokens k e.rest) (known ∙ o.off)
+  off_too : e.known ≡ q.known → e.left ≡ seen e.known e.rest → e.left ≡ seen false e.rest
+  off_too known is = is ∙ ap (λ (k : Bool). seen k e.rest) (known ∙ o.off)
 
   -- after the `)` that follows c
-  next : (c : List Token) → e.rest ≡ behind true (length c) q.rest → behind true 1 e.rest ≡ behind true (length c + 1) (behind false 1 (tokens_of o.all))
+  next : (c : List Token) → tokens_of e.rest ≡ behind true (length c) (tokens_of q.rest) → behind true 1 (tokens_of e.rest) ≡ behind true (length c + 1) (behind false 1 (tokens_of o.all))
   next c s = ap (λ (r : List Token). behind true 1 r) (s ∙ ap (λ (r : List Token). behind true (length c) r) o.rest) ∙ behind_then true (length c) 1 (behind false 1 (tokens_of o.all))
 
-  pub module_found : (m : ModuleModel) → Front module_.spells (annotated q).left (m, (annotated e).left) → ends (annotated e).left ≡ true → ((c : List Token) → (annotated q).left ≡ c ++ (annotated e).left → e.rest ≡ behind true (length c) q.rest) → e.known ≡ q.known → e.left ≡ visible_tokens e.known e.rest → e.left ≡ RParen ∷ [] → SpellsModule text m
-  module_found m (c, cut, spells) end follows known seen alone =
-      let (more, is, none) = last_seen e.rest end (sym (off_too known seen) ∙ alone) in (
+  pub module_found : (m : ModuleModel) → Front module_.spells (annotated q).left (m, (annotated e).left) → ends (annotated e).left ≡ true → ((c : List Token) → (annotated q).left ≡ c ++ (annotated e).left → tokens_of e.rest ≡ behind true (length c) (tokens_of q.rest)) → e.known ≡ q.known → e.left ≡ seen e.known e.rest → e.left ≡ RParen ∷ [] → SpellsModule text m
+  module_found m (c, cut, spells) end follows known visible_is alone =
+      let (more, is, none) = last_seen (tokens_of e.rest) end (sym (off_too known visible_is) ∙ alone) in (
         o.all,
         o.cut,
         record {
@@ -135,12 +135,12 @@ module _ (text : List ℕ) (q e : State) (o : Opened text q) where
       f s.tokens (RParen ∷ s.more) (inside_is v s) s.spelled
 
   -- and after them only `)` is visible
-  pub module_closes : (v : ModuleModel) → OneCut → SpellsModule text v → ((c r : List Token) → (annotated q).left ≡ c ++ r → module_.spells v c r → (annotated e).left ≡ r) → ((c : List Token) → (annotated q).left ≡ c ++ (annotated e).left → e.rest ≡ behind true (length c) q.rest) → e.known ≡ q.known → e.left ≡ visible_tokens e.known e.rest → e.left ≡ RParen ∷ []
-  module_closes v one spelled accepts follows known seen =
+  pub module_closes : (v : ModuleModel) → OneCut → SpellsModule text v → ((c r : List Token) → (annotated q).left ≡ c ++ r → module_.spells v c r → (annotated e).left ≡ r) → ((c : List Token) → (annotated q).left ≡ c ++ (annotated e).left → tokens_of e.rest ≡ behind true (length c) (tokens_of q.rest)) → e.known ≡ q.known → e.left ≡ seen e.known e.rest → e.left ≡ RParen ∷ []
+  module_closes v one spelled accepts follows known visible_is =
       let s = this_cut v one spelled in
       let is : (annotated e).left ≡ RParen ∷ s.more = accepts s.tokens (RParen ∷ s.more) (inside_is v s) s.spelled in
       let cut : (annotated q).left ≡ s.tokens ++ (annotated e).left = inside_is v s ∙ ap (λ (l : List Token). s.tokens ++ l) (sym is) in
-      off_too known seen ∙ alone_seen e.rest s.more is (ap (λ (r : List Token). visible_tokens false r) (next s.tokens (follows s.tokens cut)) ∙ s.last)
+      off_too known visible_is ∙ alone_seen (tokens_of e.rest) s.more is (ap (λ (r : List Token). visible_tokens false r) (next s.tokens (follows s.tokens cut)) ∙ s.last)
 
 -- a value that is passed on keeps the facts that the call showed
 pub passed_on : {X E : Type 0} (r : Result X E) (x : X) (P : X → Type 0) (Q : Type 0) → IfOk r (λ v. v ≡ x) → IfOk r (λ _. Q) → (Q → P x) → IfOk r P

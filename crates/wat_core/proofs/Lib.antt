@@ -1,9 +1,9 @@
 pub mod InTheGroup
 pub mod Ends
 pub mod Fields
+pub mod Groups
 pub mod Heads
 pub mod AnyRest
-pub mod AtIndex
 pub mod Rows
 pub mod Stands
 pub mod Telling

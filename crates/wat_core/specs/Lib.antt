@@ -142,6 +142,5 @@ pub mod ModuleGroups
 pub mod ModuleHead
 pub mod Rows
 pub mod Text
-pub mod Visible
 pub mod WrongFields
 pub mod Prelude

@@ -2,7 +2,7 @@
 use Rattle.std.specs.Prelude.{ℕ, ◌≡◌, Bool, true, false, not, ◌&&◌, List, [], ◌∷◌, Option, Some, None, MatchOption, if◌then◌else◌, codes}
 use Rattle.wat_fields.specs.Prelude.{offset_of, Token, Placed, RParen, Error, begins_lparen, begins_word, begins_id, begins_annotation}
 use Rattle.wat_tokens.specs.Error.{Unexpected}
-use Rattle.wat_core.specs.Visible.{shown, seen, behind_one, closing, rest_by}
+use Rattle.wat_tokens.specs.Visible.{shown, seen, behind_one, closing, rest_by}
 
 -- the tokens after an identifier if an identifier is next, otherwise all tokens
 abbrev pub behind_id : List Placed → List Placed

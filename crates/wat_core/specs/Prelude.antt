@@ -1,12 +1,10 @@
 -- The names that files of this crate and of the crates above it import most, passed on from one place.
 -- Declares nothing.
 pub use Rattle.std.proofs.Math.Bool.{beq}
-pub use Rattle.std.proofs.lemmas.List.{drop-map, length-map}
+pub use Rattle.std.proofs.lemmas.List.{length-map}
 pub use Rattle.std.specs.Fmt.{signed_decimal}
 pub use Rattle.std.specs.Str.{IsUtf8, bytes_eq}
 pub use Rattle.std.specs.String.{string_bytes}
-pub use Rattle.wat_lexer.specs.Laws.Kinds.{token_at}
-pub use Rattle.wat_lexer.specs.Token.{Entry}
 pub use Rattle.wat_tokens.specs.Index.{name}
 pub use Rattle.wat_tokens.specs.Laws.Test.{end_denied}
 pub use Rattle.wat_tokens.specs.State.{State}
@@ -31,10 +29,12 @@ pub use Rattle.wat_links.specs.Raw.{RawCustomSectionModel}
 pub use Rattle.wat_links.specs.declared.custom_place.CustomPlace.{CustomPlace}
 pub use Rattle.wat_links.specs.declared.custom_place.CustomPlace.TheVariants.{After, Before, BeforeFirst}
 pub use Rattle.wat_links.specs.declared.export.ExportKind.{ExportKind}
+pub use Rattle.wat_tokens.specs.Visible.{IsPlaceOf, behind_one, rest_by, seen, shown}
+unfoldable pub use Rattle.wat_tokens.specs.Visible.{closing}
 pub use Rattle.wat_mnemonics.specs.Ops.{op_word}
 pub use Rattle.wat_mnemonics.specs.declared.op.Op.{Op}
 pub use Rattle.wat_instr.specs.Operand.{Operand}
-pub use Rattle.wat_fields.specs.Prelude.{cases_Bool, ExpressionModel, expression_view, DataModel, numbers, written, ElemModel, FuncModel, func_view, GlobalModel, MemoryModel, exprs, indices, is_funcref, TableModel, TagModel, InstructionModel, IsCut, by_test, begins_annotation_group, begins_hidden_group, deeper, shuts, Keyword, LParen, Placed, RParen, Token, tokens_of, no_entry, placed, Error, Memory, CustomModel, custom_view, raw, ExportModel, export_view, FieldHeadModel, field_head, ImportsModel, single, AfterLast, turns_too, paren, IndexModel, index_view, number, made, Production, string, at_more, at_word, begins_annotation, begins_lparen, begins_word, ends, more, no_items, owning, TextSpells, abstract_, RefTypeModel}
+pub use Rattle.wat_fields.specs.Prelude.{cases_Bool, ExpressionModel, expression_view, DataModel, numbers, written, ElemModel, FuncModel, func_view, GlobalModel, MemoryModel, exprs, indices, is_funcref, TableModel, TagModel, InstructionModel, IsCut, by_test, begins_annotation_group, begins_hidden_group, deeper, shuts, Keyword, LParen, Placed, RParen, Token, tokens_of, Error, Memory, CustomModel, custom_view, raw, ExportModel, export_view, FieldHeadModel, field_head, ImportsModel, single, AfterLast, turns_too, paren, IndexModel, index_view, number, made, Production, string, at_more, at_word, begins_annotation, begins_lparen, begins_word, ends, more, no_items, owning, TextSpells, abstract_, RefTypeModel}
 unfoldable pub use Rattle.wat_fields.specs.Prelude.{expression, folded_instruction, data_val, data_vals, item_list, normal_table, table, table_kind, hidden_count, hidden_count_at, visible, visible_tokens, custom, inline_export, head, import_items, imports, inline_import, raw_custom, raw_data, raw_place, many_reads, name_annotation, behind, label, is_64, table_type, ref_type}
 pub use Rattle.wat_fields.specs.Data.{DataKindModel, data_kind_view}
 pub use Rattle.wat_fields.specs.DataVal.{DataValModel, bytes_in, data_val_view, data_vals_view}
@@ -53,9 +53,7 @@ pub use Rattle.wat_core.specs.Laws.Module.{field_group_consumes}
 pub use Rattle.wat_core.specs.Laws.Sight.{none_seen, seen_behind}
 pub use Rattle.wat_core.specs.Module.{ModuleKindModel, ModuleModel, binary, fields_view, module_view, text}
 unfoldable pub use Rattle.wat_core.specs.Module.{fields, module_, module_kind, pieces}
-pub use Rattle.wat_core.specs.ModuleGroups.{GroupsTo, IsNext, IsPart}
+pub use Rattle.wat_core.specs.ModuleGroups.{GroupsTo, IsNext, IsPart, IsWithin, end_by}
 pub use Rattle.wat_core.specs.ModuleHead.{wrong_end}
 pub use Rattle.wat_core.specs.Text.{IsModule, SpellsModule}
-pub use Rattle.wat_core.specs.Visible.{end_by, rest_by, seen, shown}
-unfoldable pub use Rattle.wat_core.specs.Visible.{closing}
 pub use Rattle.wat_core.specs.WrongFields.{IsField, Tells}

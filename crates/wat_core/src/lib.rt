@@ -12,7 +12,6 @@
 //! `wat_core::wat_mnemonics::find`.
 #![tactic(auto)]
 
-mod at_index;
 pub mod field;
 mod field_of;
 pub mod laws;

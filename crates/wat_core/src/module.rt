@@ -1,9 +1,10 @@
 //! Modules.
 
 ghost use Rattle.std.specs.Prelude.{◌≡◌, true, IfOk};
-ghost use Rattle.wat_fields.specs.Prelude.{turns_too, SameSettings, ReadsAt, visible_tokens, annotated, ends, more, owning};
+ghost use Rattle.wat_fields.specs.Prelude.{turns_too, SameSettings, ReadsAt, annotated, ends, more, owning};
 ghost use Rattle.wat_tokens.specs.Counts.{Turned};
 ghost use Rattle.wat_tokens.specs.Outcome.{ReadsPrefix, TakesPrefix};
+ghost use Rattle.wat_tokens.specs.Visible.{seen};
 ghost use Rattle.wat_core.specs.Field.{ModuleFieldModel, field_view, heapless_field};
 ghost use Rattle.wat_core.specs.Module.{ModuleModel, module_kind_view, heapless_module_kind, module_kind, module_view, heapless_module, module_};
 ghost use Rattle.wat_core.specs.FieldGroup.{field_group};
@@ -149,7 +150,7 @@ impl<'a> Module<'a> {
         // an error.
         ensures turned { Turned result parser.old parser.new }
         // The left tokens are the visible tokens of the rest, by the annotations known on return.
-        ensures visible { parser.new.left ≡ visible_tokens parser.new.known parser.new.rest }
+        ensures visible { parser.new.left ≡ seen parser.new.known parser.new.rest }
         ensures settings { SameSettings parser.old parser.new }
     {
         let was = parser.known();

@@ -1,13 +1,11 @@
 //! The groups of a text, each from its `(` to its `)`.
 
-ghost use Rattle.std.specs.Prelude.{◌≡◌, ◌≤◌, ◌<◌, ◌+◌, MatchOption, IfSome, None, Some, true, false, length, drop};
-ghost use Rattle.std.proofs.Math.ListN.{get_or};
-ghost use Rattle.wat_fields.specs.Prelude.{IsCut, placed, AreSkips, no_entry, begins_lparen};
-ghost use Rattle.wat_core.specs.Visible.{seen, closing};
-ghost use Rattle.wat_core.specs.ModuleGroups.{IsNext, IsPart};
+ghost use Rattle.std.specs.Prelude.{◌≡◌, ◌<◌, MatchOption, true, false, length};
+ghost use Rattle.wat_fields.specs.Prelude.{begins_lparen};
+ghost use Rattle.wat_tokens.specs.Visible.{seen};
+ghost use Rattle.wat_core.specs.ModuleGroups.{IsNext, IsPart, IsWithin};
 
-use crate::at_index::{first_shown, opens_at};
-use wat_lexer::tokens::Tokens;
+use wat_tokens::parser::Parser;
 
 /// The part of a text that is one group, in bytes from the start of the text.
 ///
@@ -21,55 +19,28 @@ pub struct Group {
     pub end: usize,
 }
 
-/// Returns the place of the `)` that closes the group around a place; None if no `)` closes it.
-#[tactic(auto, using(crate::proofs::AtIndex::closing_steps))]
-pub(crate) fn closing(tokens: &Tokens, from: usize) -> Option<usize>
-    requires { from ≤ length tokens.now }
-    ensures value { MatchOption result (closing 0 (drop from (placed tokens.now)) ≡ None)
-        (λ i. closing 0 (drop from (placed tokens.now))
-        ≡ Some ((get_or tokens.now i no_entry).offset, drop (i + 1) (placed tokens.now))) }
-    ensures within { IfSome result (λ i. (from ≤ i) × (i < length tokens.now)
-        × (i < usize.MAX)) }
+/// Passes over the next group, and returns it; None if the next token isn't `(`. A group that isn't
+/// closed goes to the end of the text.
+pub(crate) fn next_group(parser: &mut Parser<'_>, text: &str) -> Option<Group>
+    requires { IsWithin text.now parser.old }
+    ensures next { MatchOption result ((begins_lparen (seen true parser.old.rest) ≡ false)
+        × (parser.new ≡ parser.old))
+        (λ g. IsNext (length text.now) parser.old.rest g parser.new.rest
+        × IsPart text.now g × (length parser.new.rest < length parser.old.rest)) }
+    ensures within { IsWithin text.now parser.new }
 {
-    let mut depth: usize = 0;
-    for i in from..tokens.len() {
-        if tokens.closes(i) {
-            if depth == 0 {
-                return Some(i);
-            }
-            depth -= 1;
-        } else if tokens.opens(i) {
-            depth += 1;
-        }
-    }
-    None
-}
-
-/// Returns the next group from a place on, and the place after that group; None if the next visible
-/// token isn't `(`. A group that isn't closed goes to the end of the text.
-pub(crate) fn next_group(text: &str, tokens: &Tokens, at: usize) -> Option<(Group, usize)>
-    requires within { at ≤ length tokens.now }
-    requires skips { AreSkips tokens.now }
-    requires cut { IsCut text.now (placed tokens.now) }
-    ensures next { MatchOption result (begins_lparen (seen true (drop at (placed tokens.now)))
-        ≡ false) (λ r. IsNext (length text.now) (drop at (placed tokens.now)) r.0
-        (drop r.1 (placed tokens.now))) }
-    ensures place { IfSome result (λ r. (at < r.1) × (r.1 ≤ length tokens.now)) }
-    ensures part { IfSome result (λ r. IsPart text.now r.0) }
-{
-    let open = first_shown(tokens, at, true);
-    if !opens_at(tokens, open) {
+    if !parser.opens() {
         return None;
     }
-    let from = tokens.offset(open);
-    match closing(tokens, open + 1) {
+    let from = parser.cur_span().offset();
+    match parser.pass_group() {
         Some(close) => {
-            let end = tokens.offset(close) + 1;
-            Some((Group { from, end }, close + 1))
+            let end = close.offset() + 1;
+            Some(Group { from, end })
         }
         None => {
             let end = text.len();
-            Some((Group { from, end }, tokens.len()))
+            Some(Group { from, end })
         }
     }
 }

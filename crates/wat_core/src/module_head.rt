@@ -1,100 +1,98 @@
 //! The parts of a module besides its fields: the head, and the tokens after the fields (Text
 //! Format, "Modules").
 
-ghost use Rattle.std.specs.Prelude.{◌≡◌, ◌≤◌, MatchOption, IfSome, true, false, length, drop};
-ghost use Rattle.wat_fields.specs.Prelude.{placed, AreSkips, offset_of};
+ghost use Rattle.std.specs.Prelude.{◌≡◌, ◌≤◌, true, length};
+ghost use Rattle.wat_fields.specs.Prelude.{offset_of};
 ghost use Rattle.wat_tokens.specs.Error.{Unexpected};
+ghost use Rattle.wat_tokens.specs.Visible.{shown, seen};
 ghost use Rattle.wat_core.specs.ModuleHead.{place_of, wrong_end, IsUnexpected, behind_id, behind_name, behind_head, has_head};
 
-use crate::at_index::{closes_at, first_shown, id_at, name_at, opens_at, word_at};
-use crate::module_group::closing;
 use wat_lexer::fault::{Error, Fault, fault_at};
-use wat_lexer::tokens::Tokens;
+use wat_tokens::index::Id;
+use wat_tokens::parser::Parser;
 
-/// Returns the place after an identifier if an identifier is next, otherwise the same place.
-fn behind_id(tokens: &Tokens, at: usize) -> usize
-    requires within { at ≤ length tokens.now }
-    requires skips { AreSkips tokens.now }
-    ensures value { drop result (placed tokens.now) ≡ behind_id (drop at (placed tokens.now)) }
-    ensures within { result ≤ length tokens.now }
+/// Passes over an identifier, if an identifier is next.
+fn pass_id(parser: &mut Parser<'_>)
+    requires known { parser.old.known ≡ true }
+    requires seen { parser.old.left ≡ seen true parser.old.rest }
+    ensures { parser.new ≡ record parser.old {
+      rest = behind_id parser.old.rest;
+      left = seen true (behind_id parser.old.rest);
+    } }
 {
-    let first = first_shown(tokens, at, true);
-    if !id_at(tokens, first) {
-        return at;
+    if !parser.peek::<Id>() {
+        return;
     }
-    first + 1
+    parser.pass_token();
 }
 
-/// Returns the place after a group that begins with the annotation `@name`, if such a group is
-/// next, otherwise the same place.
-fn behind_name(tokens: &Tokens, at: usize) -> usize
-    requires within { at ≤ length tokens.now }
-    requires skips { AreSkips tokens.now }
-    ensures value { drop result (placed tokens.now) ≡ behind_name (drop at (placed tokens.now)) }
-    ensures within { result ≤ length tokens.now }
+/// Passes over a group that begins with the annotation `@name`, if such a group is next.
+fn pass_name(parser: &mut Parser<'_>)
+    requires known { parser.old.known ≡ true }
+    requires seen { parser.old.left ≡ seen true parser.old.rest }
+    ensures { parser.new ≡ record parser.old {
+      rest = behind_name parser.old.rest;
+      left = seen true (behind_name parser.old.rest);
+    } }
 {
-    let first = first_shown(tokens, at, true);
-    if !name_at(tokens, first) {
-        return at;
+    if !parser.annotation_is("name") {
+        return;
     }
-    match closing(tokens, first + 1) {
-        Some(close) => close + 1,
-        None => tokens.len(),
-    }
+    parser.pass_group();
 }
 
-/// Returns the place after the module's head; None if the head is missing, or if the keyword
-/// `binary` follows the head.
-pub(crate) fn behind_head(tokens: &Tokens) -> Option<usize>
-    requires { AreSkips tokens.now }
-    ensures head { MatchOption result (has_head (placed tokens.now) ≡ false)
-        (λ at. (has_head (placed tokens.now) ≡ true)
-        × (drop at (placed tokens.now) ≡ behind_head (placed tokens.now))) }
-    ensures within { IfSome result (λ at. at ≤ length tokens.now) }
+/// Passes over the module's head, and makes the five standard annotations known. Returns false if
+/// the head is missing, or if the keyword `binary` follows the head.
+pub(crate) fn pass_head(parser: &mut Parser<'_>) -> bool
+    ensures value { result ≡ has_head parser.old.rest }
+    ensures behind { result ≡ true → (parser.new.known ≡ true)
+        × (parser.new.left ≡ seen true parser.new.rest)
+        × (parser.new.rest ≡ behind_head parser.old.rest)
+        × (length parser.new.rest ≤ usize.MAX) }
 {
-    let open = first_shown(tokens, 0, false);
-    if !opens_at(tokens, open) {
-        return None;
+    parser.with_standard_annotations(false);
+    if !parser.opens() {
+        return false;
     }
-    let word = first_shown(tokens, open + 1, true);
-    if !word_at(tokens, word, "module") {
-        return None;
+    parser.pass_token();
+    parser.with_standard_annotations(true);
+    if !parser.next_is("module") {
+        return false;
     }
-    let named = behind_id(tokens, word + 1);
-    let at = behind_name(tokens, named);
-    let next = first_shown(tokens, at, true);
-    if word_at(tokens, next, "binary") {
-        return None;
-    }
-    Some(at)
+    parser.pass_token();
+    pass_id(parser);
+    pass_name(parser);
+    !parser.next_is("binary")
 }
 
-/// Returns the fault Unexpected at the token at a place, or at the end of the text if the place is
-/// after the last token.
-fn unexpected(tokens: &Tokens, at: usize, end: usize) -> Error
+/// Returns the fault Unexpected at the next token, or at `end` if no token is left.
+fn unexpected(parser: &Parser<'_>, end: usize) -> Error
+    requires { parser.now.left ≡ seen parser.now.known parser.now.rest }
     ensures fault { result.fault ≡ Unexpected }
-    ensures place { offset_of result.span ≡ place_of end (drop at (placed tokens.now)) }
+    ensures place { offset_of result.span
+        ≡ place_of end (shown parser.now.known parser.now.rest) }
 {
-    if at >= tokens.len() {
+    if parser.at_end() {
         return fault_at(Fault::Unexpected, end);
     }
-    fault_at(Fault::Unexpected, tokens.offset(at))
+    Error::at(Fault::Unexpected, parser.cur_span())
 }
 
-/// Returns the error after the groups, from a place on in a text of `end` bytes; None if only the
-/// module's `)` follows.
-pub(crate) fn wrong_end(tokens: &Tokens, at: usize, end: usize) -> Option<Error>
-    requires within { at ≤ length tokens.now }
-    requires skips { AreSkips tokens.now }
-    ensures { IsUnexpected result (wrong_end end (drop at (placed tokens.now))) }
+/// Returns the error after the groups in a text of `end` bytes; None if only the module's `)`
+/// follows.
+pub(crate) fn wrong_end(parser: &mut Parser<'_>, end: usize) -> Option<Error>
+    requires known { parser.old.known ≡ true }
+    requires seen { parser.old.left ≡ seen true parser.old.rest }
+    ensures { IsUnexpected result (wrong_end end parser.old.rest) }
 {
-    let close = first_shown(tokens, at, true);
-    if !closes_at(tokens, close) {
-        return Some(unexpected(tokens, close, end));
+    match parser.cursor().rparen() {
+        None => return Some(unexpected(parser, end)),
+        Some(_) => {}
     }
-    let next = first_shown(tokens, close + 1, false);
-    if next >= tokens.len() {
+    parser.pass_token();
+    parser.with_standard_annotations(false);
+    if parser.at_end() {
         return None;
     }
-    Some(unexpected(tokens, next, end))
+    Some(unexpected(parser, end))
 }

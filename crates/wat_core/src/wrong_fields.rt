@@ -1,21 +1,20 @@
 //! The errors of a module's fields.
 
-ghost use Rattle.std.specs.Prelude.{◌≡◌, ◌≢◌, ◌≤◌, ◌<◌, ◌+◌, ℕ, List, [], ◌∷◌, ◌++◌, true, take, length, drop, IfOk, IfErr, OnOk, MatchOption, Option};
-ghost use Rattle.wat_fields.specs.Prelude.{FirstFault, IsCut, offset_of, Placed, placed, AreSkips, IfFault, Memory};
+ghost use Rattle.std.specs.Prelude.{◌≡◌, ◌≢◌, ◌≤◌, ◌<◌, ◌+◌, ℕ, List, [], ◌∷◌, ◌++◌, take, length, IfOk, IfErr, OnOk, MatchOption, Option};
+ghost use Rattle.wat_fields.specs.Prelude.{FirstFault, IsCut, offset_of, Placed, IfFault, Memory};
 ghost use Rattle.wat_core.specs.WrongFields.{IsField, IsFaultOf, AreFaultsOf, Tells};
 ghost use Rattle.wat_core.specs.Field.{module_field};
-ghost use Rattle.wat_core.specs.ModuleGroups.{GroupsTo, HasGroups, IsPart, bytes_of};
+ghost use Rattle.wat_core.specs.ModuleGroups.{GroupsTo, HasGroups, IsPart, IsWithin, bytes_of};
 ghost use Rattle.wat_core.specs.ModuleHead.{IsUnexpected};
 
 use crate::field::ModuleField;
 use crate::module_group::{Group, next_group};
-use crate::module_head::{behind_head, wrong_end};
+use crate::module_head::{pass_head, wrong_end};
 use bumpalo::Bump;
 use std::alloc::{AllocError, Global};
-use wat_lexer::cut::cut;
 use wat_lexer::fault::{Error, Fault, fault_at};
-use wat_lexer::tokens::Tokens;
 use wat_tokens::enclosed::Grouped;
+use wat_tokens::parser::Parser;
 use wat_tokens::traits::Parse;
 use wat_tokens::whole_text::read_text;
 
@@ -137,36 +136,32 @@ fn check<'a, T: Parse<'a> + Drop>(
     }
 }
 
-/// Reads the groups from a place on. Returns their results and the place after the last group.
+/// Reads the groups that are next, and returns their results.
 fn check_all<'a, T: Parse<'a> + Drop>(
     alloc: Global,
     text: &'a str,
     arena: &'a Bump,
-    tokens: &Tokens,
-    start: usize,
+    parser: &mut Parser<'a>,
     most: usize,
-) -> Result<(FieldFaults, usize), Error>
-    requires within { start ≤ length tokens.now }
-    requires skips { AreSkips tokens.now }
-    requires cut { IsCut text.now (placed tokens.now) }
-    ensures found { IfOk result (λ r. (gs : List Group)
-        × GroupsTo (length text.now) (drop start (placed tokens.now)) gs
-        (drop r.1 (placed tokens.now)) × Tells (IsField T.grammar) text.now most gs r.0) }
-    ensures within { IfOk result (λ r. r.1 ≤ length tokens.now) }
+) -> Result<FieldFaults, Error>
+    requires within { IsWithin text.now parser.old }
+    requires few { length parser.old.rest ≤ usize.MAX }
+    ensures found { IfOk result (λ f. (gs : List Group)
+        × GroupsTo (length text.now) parser.old.rest gs parser.new.rest
+        × Tells (IsField T.grammar) text.now most gs f) }
+    ensures within { IfOk result (λ _. IsWithin text.now parser.new) }
     ensures memory { IfErr result (λ e. e.fault ≡ Memory) }
 {
     let mut found = FieldFaults::none(alloc);
-    let mut at = start;
     'groups: loop {
-        let (group, behind) = match next_group(text, tokens, at) {
-            None => return Ok((found, at)),
-            Some(next) => next,
+        let group = match next_group(parser, text) {
+            None => return Ok(found),
+            Some(group) => group,
         };
         match check::<T>(alloc, text, arena, group, most, &mut found) {
             Err(e) => return Err(e),
             Ok(()) => {}
         }
-        at = behind;
     }
 }
 
@@ -194,8 +189,8 @@ fn check_all<'a, T: Parse<'a> + Drop>(
 /// annotation can be invalid, as in `(module (@name 1))`. [`read_module`](crate::read_module)
 /// decides whether a text is a module.
 ///
-/// Returns an error if the text has invalid tokens, as [`cut`] does: LexChar, LexString, LexComment
-/// or LexAnnotation, at its offset; or Memory.
+/// Returns an error if the text has invalid tokens, as [`Parser::new`] does: LexChar, LexString,
+/// LexComment or LexAnnotation, at its offset; or Memory.
 pub fn field_faults<'a, T: Parse<'a> + Drop>(
     alloc: Global,
     text: &'a str,
@@ -211,19 +206,18 @@ pub fn field_faults<'a, T: Parse<'a> + Drop>(
     ensures refused { IfErr result (λ e. IfFault e (FirstFault text.now e.fault (offset_of e.span)
         × ((ts : List Placed) → IsCut text.now ts → ⊥))) }
 {
-    let tokens = match cut(alloc, text, arena) {
+    let mut parser = match Parser::new(alloc, text, arena) {
         Err(e) => return Err(e),
-        Ok(tokens) => tokens,
+        Ok(parser) => parser,
     };
-    let start = match behind_head(&tokens) {
-        None => return Ok(FieldFaults::none(alloc)),
-        Some(start) => start,
-    };
-    let (mut found, at) = match check_all::<T>(alloc, text, arena, &tokens, start, most) {
+    if !pass_head(&mut parser) {
+        return Ok(FieldFaults::none(alloc));
+    }
+    let mut found = match check_all::<T>(alloc, text, arena, &mut parser, most) {
         Err(e) => return Err(e),
-        Ok(all) => all,
+        Ok(found) => found,
     };
-    found.beside = wrong_end(&tokens, at, text.len());
+    found.beside = wrong_end(&mut parser, text.len());
     Ok(found)
 }
 

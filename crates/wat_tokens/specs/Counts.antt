@@ -1,6 +1,6 @@
 -- How a call changes the counts of a parser.
 use Rattle.std.specs.Prelude.{◌≡◌, ℕ, ◌+◌, ◌≤◌, List, ◌++◌, length, max, Result, Ok, Err}
-use Rattle.wat_lexer.specs.Token.{Token}
+use Rattle.wat_lexer.specs.Token.{Token, tokens_of}
 use Rattle.wat_tokens.specs.Parens.{nest}
 use Rattle.wat_tokens.specs.State.{State, behind}
 
@@ -17,7 +17,7 @@ pub record CountsBy (a : State) (b : State) : Type 0 where
   pub more : Grows a b
   pub peak : b.peak ≤ max a.peak (nest front)
   pub known : b.known ≡ a.known
-  pub position : b.rest ≡ behind a.known (length front) a.rest
+  pub position : tokens_of b.rest ≡ behind a.known (length front) (tokens_of a.rest)
 
 unfoldable pub Counts : State → State → Type 0
 Counts a b = CountsBy a b

@@ -23,4 +23,5 @@ pub mod Settled
 pub mod Spelled
 pub mod State
 pub mod Test
+pub mod Visible
 pub mod Prelude

@@ -45,5 +45,6 @@ pub mod Strings
 pub mod Test
 pub mod Tests
 pub mod Views
+pub mod Visible
 pub mod Whole
 pub mod Prelude

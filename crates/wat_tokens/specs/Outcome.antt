@@ -1,6 +1,6 @@
 -- The result of a parse and the tokens that it takes, by the next tokens.
 use Rattle.std.specs.Prelude.{◌≡◌, ◌≢◌, ◌≤◌, ◌+◌, ◌++◌, List, length, max, Result, IfOk, IfErr}
-use Rattle.wat_lexer.specs.Token.{Token}
+use Rattle.wat_lexer.specs.Token.{Token, tokens_of}
 use Rattle.wat_tokens.specs.Counts.{Grows}
 use Rattle.wat_tokens.specs.Error.{Error, Memory}
 use Rattle.wat_tokens.specs.Parens.{nest}
@@ -30,7 +30,8 @@ pub record ReadsPrefix {X A : Type 0} (view : ViewOf X A) (g : Production A) (r 
 -- grows: no count fell
 pub record TakesPrefix (a b : State) : Type 0 where
   pub end : (c : List Token) × (a.left ≡ c ++ b.left)
-  pub position : (c : List Token) → a.left ≡ c ++ b.left → b.rest ≡ behind a.known (length c) a.rest
+  pub position : (c : List Token) → a.left ≡ c ++ b.left
+      → tokens_of b.rest ≡ behind a.known (length c) (tokens_of a.rest)
   pub taken : (c : List Token) → a.left ≡ c ++ b.left → b.taken ≡ a.taken + length c
   pub within : b.taken + length b.left ≡ a.taken + length a.left
   pub peak : (c : List Token) → a.left ≡ c ++ b.left → b.peak ≤ max a.peak (nest c)

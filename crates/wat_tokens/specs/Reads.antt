@@ -1,6 +1,6 @@
 -- The contract of a call that reads by a production.
-use Rattle.std.specs.Prelude.{◌≡◌, ◌+◌, drop, Result, Option, IfOk, IfErr}
-use Rattle.wat_lexer.specs.Prelude.{hidden_count, Token}
+use Rattle.std.specs.Prelude.{◌≡◌, Result, Option, IfOk, IfErr}
+use Rattle.wat_lexer.specs.Token.{Token}
 use Rattle.wat_tokens.specs.Cost.{Cost, tokens_alone, Costs}
 use Rattle.wat_tokens.specs.Counts.{Counted, SameSettings}
 use Rattle.wat_tokens.specs.Error.{Error, Unexpected}
@@ -9,6 +9,7 @@ use Rattle.wat_tokens.specs.PartSpells.{one_reads}
 use Rattle.wat_tokens.specs.Production.{Production, Read}
 use Rattle.wat_tokens.specs.State.{State}
 use Rattle.wat_tokens.specs.Views.{ViewOf, plain}
+use Rattle.wat_tokens.specs.Visible.{behind_one}
 
 -- From a to b a call returned r, where `read` is what its production reads of a.left.
 -- exact: the result is the value of `read`, with its rest left; an error means that `read` has no
@@ -46,4 +47,4 @@ Unmoved r a b = IfErr r (λ e. (e.fault ≡ Unexpected) × (b ≡ a))
 
 -- the parser is directly after the token, and before any hidden groups that follow it
 abbrev pub BehindOne : {X : Type 0} → Result X Error → State → State → Type 0
-BehindOne r a b = IfOk r (λ _. b.rest ≡ drop (hidden_count a.known a.rest + 1) a.rest)
+BehindOne r a b = IfOk r (λ _. b.rest ≡ behind_one a.known a.rest)

@@ -5,6 +5,7 @@
 //! recognized by lookahead. All offsets are in bytes from the start of the text.
 #![tactic(auto)]
 
+mod closing;
 pub mod counter;
 pub mod cursor;
 pub mod enclosed;

@@ -1,7 +1,7 @@
 //! The parser: a position in the tokens of a text, settings, and counts for contracts.
 
-ghost use Rattle.std.specs.Prelude.{◌≡◌, ◌≢◌, ◌+◌, ◌≤◌, List, [], ◌∷◌, length, drop, max, IfOk, None, IfErr, MatchBool};
-ghost use Rattle.wat_lexer.specs.Prelude.{IsCut, FirstFault, text_of, offset_of, visible_tokens, hidden_count, Placed, LParen, RParen, entry_tokens, AreSkips};
+ghost use Rattle.std.specs.Prelude.{◌≡◌, ◌≢◌, ◌+◌, ◌≤◌, List, [], ◌∷◌, length, drop, max, IfOk, Some, None, IfErr, MatchBool, MatchOption};
+ghost use Rattle.wat_lexer.specs.Prelude.{IsCut, FirstFault, text_of, offset_of, Placed, LParen, RParen, placed, AreSkips};
 ghost use Rattle.wat_tokens.specs.Counts.{Carries, Quiet, SameSettings};
 ghost use Rattle.wat_tokens.specs.Lookup.{in_front, FirstIs};
 ghost use Rattle.wat_tokens.specs.Error.{Error};
@@ -11,7 +11,9 @@ ghost use Rattle.wat_tokens.specs.Reads.{Reads, Takes, Unmoved, BehindOne};
 ghost use Rattle.wat_tokens.specs.State.{begun, IsFresh};
 ghost use Rattle.wat_tokens.specs.Tests.{as_lparen, as_rparen, as_keyword, as_id, as_integer, as_string, word_only, annotation_only, begins_word, begins_lparen, begins_group, begins_annotation, none_left, ends, second};
 ghost use Rattle.wat_tokens.specs.Views.{plain};
+ghost use Rattle.wat_tokens.specs.Visible.{shown, seen, behind_one, closing, IsPlaceOf};
 
+use crate::closing::closing;
 use crate::counter::Counter;
 use crate::cursor::Cursor;
 use crate::next_visible::next_visible;
@@ -64,10 +66,10 @@ impl<'a> Model for Parser<'a> {
     ghost Value = { State };
 
     ghost use Rattle.wat_lexer.specs.Sight.{visible_tokens};
-    ghost use Rattle.wat_lexer.specs.View.{entry_tokens, AreSkips, IsNextVisible};
+    ghost use Rattle.wat_lexer.specs.View.{entry_tokens, placed, AreSkips, IsNextVisible};
 
     ghost view = { λ p. record {
-      rest = entry_tokens (drop p.at p.tokens);
+      rest = drop p.at (placed p.tokens);
       left = visible_tokens p.known
           (entry_tokens (drop p.at p.tokens));
       known = p.known;
@@ -102,9 +104,10 @@ impl<'a> Parser<'a> {
 
     /// Returns a parser before the first of the tokens of a text of `end` bytes. No annotation is
     /// known.
+    #[tactic(auto, using(crate::proofs::Steps::placed_steps))]
     fn over(alloc: Global, tokens: Tokens<'a>, end: usize) -> Parser<'a>
         requires { AreSkips tokens }
-        ensures { result ≡ begun (entry_tokens tokens.entry) }
+        ensures { result ≡ begun (placed tokens.entry) }
     {
         let front = next_visible(&tokens, 0, false);
         Parser {
@@ -125,12 +128,10 @@ impl<'a> Parser<'a> {
 
     /// Makes the five standard annotations known or unknown: `custom`, `producers`, `name`,
     /// `dylink.0` and `metadata.code.branch_hint`. The parser's position doesn't change.
+    #[tactic(auto, using(crate::proofs::Steps::placed_steps))]
     pub fn with_standard_annotations(&mut self, on: bool)
-        ensures value { self.new ≡ record self.old {
-          known = on;
-          left = visible_tokens on self.old.rest;
-        } }
-        ensures was { self.old.left ≡ visible_tokens self.old.known self.old.rest }
+        ensures value { self.new ≡ record self.old { known = on; left = seen on self.old.rest } }
+        ensures was { self.old.left ≡ seen self.old.known self.old.rest }
     {
         self.known = on;
         self.front = next_visible(&self.tokens, self.at, on);
@@ -208,8 +209,10 @@ impl<'a> Parser<'a> {
     }
 
     /// Returns the offset in bytes of the next token, or the length of the text if no token is
-    /// left. No contract describes this offset.
-    pub fn cur_span(&self) -> Span {
+    /// left. The contract describes only the offset of a token.
+    pub fn cur_span(&self) -> Span
+        ensures { IsPlaceOf (offset_of result) (shown self.now.known self.now.rest) }
+    {
         if self.front < self.tokens.len() {
             Span::from_offset(self.tokens.offset(self.front))
         } else {
@@ -338,8 +341,7 @@ impl<'a> Parser<'a> {
     fn advance(&mut self)
         requires { self.old.left ≢ [] }
         ensures left { self.new.left ≡ drop 1 self.old.left }
-        ensures position { self.new.rest ≡ drop (hidden_count self.old.known self.old.rest + 1)
-            self.old.rest }
+        ensures position { self.new.rest ≡ behind_one self.old.known self.old.rest }
         ensures taken { self.new.taken ≡ self.old.taken + 1 }
         ensures quiet { Quiet self.old self.new }
         ensures settings { SameSettings self.old self.new }
@@ -354,14 +356,60 @@ impl<'a> Parser<'a> {
     fn step(&mut self)
         requires { self.old.left ≢ [] }
         ensures left { self.new.left ≡ drop 1 self.old.left }
-        ensures position { self.new.rest ≡ drop (hidden_count self.old.known self.old.rest + 1)
-            self.old.rest }
+        ensures position { self.new.rest ≡ behind_one self.old.known self.old.rest }
         ensures counts { Carries self.old self.new }
         ensures taken { self.new.taken ≡ self.old.taken + 1 }
         ensures quiet { Quiet self.old self.new }
         ensures settings { SameSettings self.old self.new }
     {
         self.advance();
+    }
+
+    /// Passes over the next token, of any kind. Does nothing but pass over hidden tokens if no
+    /// token is left. A token that is passed over isn't counted in `taken`.
+    #[tactic(auto, using(crate::proofs::Steps::placed_steps, crate::proofs::Steps::pass_steps))]
+    pub fn pass_token(&mut self)
+        ensures value { self.new ≡ record self.old {
+          rest = behind_one self.old.known self.old.rest;
+          left = seen self.old.known (behind_one self.old.known self.old.rest);
+        } }
+        ensures few { length self.new.rest ≤ usize.MAX }
+    {
+        let count = self.tokens.len();
+        self.at = (self.front + 1).min(count);
+        self.front = next_visible(&self.tokens, self.at, self.known);
+    }
+
+    /// Passes over the group that begins with the next token: over this token, and over all tokens
+    /// up to and including the `)` that closes the group. Returns the offset in bytes of this `)`.
+    ///
+    /// Passes over all tokens that are left and returns None if no `)` closes the group. The tokens
+    /// that are passed over aren't counted in `taken`.
+    #[tactic(auto, using(crate::proofs::Steps::placed_steps))]
+    pub fn pass_group(&mut self) -> Option<Span>
+        ensures closed { MatchOption result
+            ((closing 0 (behind_one self.old.known self.old.rest) ≡ None) × (self.new.rest ≡ []))
+            (λ s. closing 0 (behind_one self.old.known self.old.rest)
+            ≡ Some (offset_of s, self.new.rest)) }
+        ensures only { self.new ≡ record self.old {
+          rest = self.new.rest;
+          left = seen self.old.known self.new.rest;
+        } }
+    {
+        self.pass_token();
+        match closing(&self.tokens, self.at) {
+            Some(index) => {
+                let span = Span::from_offset(self.tokens.offset(index));
+                self.at = index + 1;
+                self.front = next_visible(&self.tokens, self.at, self.known);
+                Some(span)
+            }
+            None => {
+                self.at = self.tokens.len();
+                self.front = next_visible(&self.tokens, self.at, self.known);
+                None
+            }
+        }
     }
 
     /// Takes a `(`. Returns Unexpected if the next token isn't a `(`.

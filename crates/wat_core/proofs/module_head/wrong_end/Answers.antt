@@ -1,19 +1,26 @@
-use Rattle.std.proofs.Common.{◌∙◌, sym, ap, arith, drop, ℕ, Some}
-use Rattle.wat_lexer.specs.View.{placed}
-use Rattle.wat_core.proofs.Heads.{no_close, behind_close, first_past, first_here}
+use Rattle.std.proofs.Common.{◌≡◌, ◌∙◌, sym, ap, ℕ, Some, Bool, List, true, false}
+use Rattle.wat_core.specs.Prelude.{Placed, State, seen, shown, behind_one}
+use Rattle.wat_core.specs.ModuleHead.{begins_rparen, first_offset, place_of}
+use Rattle.wat_core.proofs.Heads.{one_rparen, sees, none_behind, first_behind}
 use Rattle.wat_core.proofs.module_head.wrong_end.Goals as goal
 
-pub returns-then-not-closes_at : goal.returns-then-not-closes_at
-returns-then-not-closes_at c =
-    let ps = placed c.args.tokens.now in
-    (c.unexpected.ensures.fault, no_close c.args.end (drop c.args.at ps) ps c.first_shown-close.result c.first_shown-close.ensures.value (cc) ∙ ap (λ (n : ℕ). Some n) (sym c.unexpected.ensures.place))
-
-pub returns-then-next-len : goal.returns-then-next-len
-returns-then-next-len c =
-    let ps = placed c.args.tokens.now in
-    behind_close c.args.end (drop c.args.at ps) ps c.first_shown-close.result c.first_shown-next.result c.first_shown-close.ensures.value (cc) c.first_shown-next.ensures.value ∙ first_past c.args.tokens.now c.first_shown-next.result (omega arith)
+pub returns-then-at_end : goal.returns-then-at_end
+returns-then-at_end c =
+    let p = c.args.parser.now in
+    let us = behind_one true p.rest in
+    let s = c.with_standard_annotations.new.self in
+    let l : s.left ≡ seen false us = ap (λ (s : State). s.left) c.with_standard_annotations.ensures.value ∙ ap (λ (s : State). seen false s.rest) c.pass_token.ensures.value ∙ ap (λ (k : Bool). seen false (behind_one k p.rest)) c.requires.known in
+    let closes : begins_rparen (seen true p.rest) ≡ true = rw (← c.requires.seen, ← c.cursor.ensures) (one_rparen _ c.in-Some.ensures) in
+    rw closes (ap (λ (ts : List Placed). first_offset ts) (none_behind s.left (shown false us) (sees false s.left us l) (sym c.at_end.ensures ∙ c.if-at_end.true)))
 
 pub returns : goal.returns
 returns c =
-    let ps = placed c.args.tokens.now in
-    (c.unexpected-2.ensures.fault, behind_close c.args.end (drop c.args.at ps) ps c.first_shown-close.result c.first_shown-next.result c.first_shown-close.ensures.value (cc) c.first_shown-next.ensures.value ∙ first_here c.args.end c.args.tokens.now c.first_shown-next.result (omega arith) ∙ ap (λ (n : ℕ). Some n) (sym c.unexpected-2.ensures.place))
+    let p = c.args.parser.now in
+    let us = behind_one true p.rest in
+    let s = c.with_standard_annotations.new.self in
+    let l : s.left ≡ seen false us = ap (λ (s : State). s.left) c.with_standard_annotations.ensures.value ∙ ap (λ (s : State). seen false s.rest) c.pass_token.ensures.value ∙ ap (λ (k : Bool). seen false (behind_one k p.rest)) c.requires.known in
+    let place = c.unexpected-2.ensures.place ∙ ap (λ (s : State). place_of c.args.end (shown s.known s.rest)) c.with_standard_annotations.ensures.value ∙ ap (λ (s : State). place_of c.args.end (shown false s.rest)) c.pass_token.ensures.value
+    ∙ ap (λ (k : Bool). place_of c.args.end (shown false (behind_one k p.rest))) c.requires.known in
+    let closes : begins_rparen (seen true p.rest) ≡ true = rw (← c.requires.seen, ← c.cursor.ensures) (one_rparen _ c.in-Some.ensures) in
+    let first = first_behind s.left (shown false us) c.args.end (sees false s.left us l) (sym c.at_end.ensures ∙ c.if-at_end.false) in
+    (c.unexpected-2.ensures.fault, rw closes (first ∙ ap (λ (n : ℕ). Some n) (sym place)))

@@ -1,6 +1,7 @@
 use Rattle.std.specs.Prelude.{◌≡◌, ◌≤◌, drop}
-use Rattle.wat_core.specs.Prelude.{placed, closing}
-use Rattle.wat_core.proofs.module_group.closing.Given as goal
+use Rattle.wat_lexer.specs.View.{placed}
+use Rattle.wat_tokens.specs.Visible.{closing}
+use Rattle.wat_tokens.proofs.closing.closing.Given as goal
 
 abbrev pub invariant-loop-i : goal.invariant-loop-i
 invariant-loop-i l = record {
