@@ -1,4 +1,24 @@
 -- Laws: the subsections of a `dylink.0` section are its entries, cut.
+--
+-- A `dylink.0` section is a list of groups. `subsections` reads it as subsections: a run of
+-- `export-info` groups is one subsection, and so is a run of `import-info` groups; any other group
+-- is one alone. `entries` reads it as entries, one for each group. The laws `cut_to` and `cut_from`
+-- say that both read the same tokens, if the subsections are cut: none is empty, and no two of one
+-- kind follow each other. A sketch of the proof:
+--
+--     groups       export-info a   export-info b   needed c   import-info d
+--     entries      of_export a     of_export b     other c    of_import d
+--     subsections  export_info [a, b]              other c    import_info [d]
+--
+-- 1. The next tokens: a group begins with one word, so no group begins a run of both kinds.
+-- 2. A run, for either kind (the module with the parameters f, test and g): `run_is_many` and
+--    `many_is_run` say that a run is a list of entries of its kind as long as the test holds.
+--    `run_entries` puts such a list before other entries; `entries_run` takes it off again.
+-- 3. The first subsection decides the next tokens (`starts_..`). So a run ends where the test
+--    doesn't hold, and the subsection after it is of another kind (`apart_..`); and if it is of
+--    another kind, then the test doesn't hold there (`stops_..`).
+-- 4. Both ways by recursion on the subsections: `first_cut` for one subsection before others that
+--    are cut (`to_cut`); `from_cut` takes the entries of the first subsection off.
 use Rattle.std.proofs.Common.{◌≡◌, ◌≤◌, ℕ, true, false, List, [], ◌∷◌, ◌++◌, codes, map, flat_map, refl, ap, subst, sym, ◌∙◌, append_assoc, inl, inr}
 use Rattle.std.specs.Prelude.{⊤}
 use Rattle.wat_types.specs.Prelude.{bytes_decides, bytes_eq, Token, LParen, Keyword, begins_group, more, Production, many_spells, by_test, Test, run, many_ends}
