@@ -66,6 +66,11 @@ module _ (text : List ℕ) where
   finds_faults read first f found (Ok x) are is = (f, are, is)
   finds_faults read first f found (Err e) are is = tt
 
+  -- a text that is a module
+  pub none_of_masked : (read : List ℕ) (ns : List Notice) (m : ModuleModel) → SpellsModule read m → ns ≡ [] → ChecksMasked text read ns 0
+  unfolding ChecksMasked
+  none_of_masked read ns m spells none_found = inl (m, spells, none_found, refl)
+
   -- a text that isn't a module, if the fault isn't Memory
   pub faults_of_masked : (read : List ℕ) (ns : List Notice) (first : Error) → (first.fault ≢ Memory → (m : ModuleModel) → SpellsModule read m → ⊥) → first.fault ≢ Memory → FindsFaults text read first ns → ChecksMasked text read ns 1
   unfolding ChecksMasked

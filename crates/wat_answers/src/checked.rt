@@ -1,19 +1,21 @@
 //! The check whether a text is a module, and the errors of a text that isn't a module.
 
 ghost use Rattle.std.specs.Prelude.{◌≡◌, ◌++◌, ◌∷◌, [], List, IfOk, OnOk};
+ghost use Rattle.wat_core.specs.View.{AreSkips};
+ghost use Rattle.wat_answers.specs.Prelude.{ModuleModel, SpellsModule};
 ghost use Rattle.wat_masked.specs.Prelude.{option_to_list, FirstFault, IsCut, offset_of, Placed, IfFault, placed};
 ghost use Rattle.wat_answers.specs.Checked.{AddsDiagnosed, AddsFound, AreNotices, ChecksBytes, ChecksText, ChecksMasked, FindsFaults, FindsUncut, IsDiagnosticOf, beside_of, has_error_at, lead_of, may_expect, more_notices};
 ghost use Rattle.wat_answers.specs.declared.notice.Notice.TheVariants.{Found};
 
 use crate::expected::expected_at;
 use crate::notice::Notice;
-use crate::reading::module_of;
+use crate::reading::{module_of, module_of_tokens};
 use bumpalo::Bump;
 use std::alloc::{AllocError, Global};
 use wat_core::wat_lexer::cut::cut;
 use wat_core::wat_lexer::tokens::Tokens;
 use wat_core::{Error, Fault, FieldFaults, module_faults};
-use wat_masked::masked::masked;
+use wat_masked::masked::masked_if_changed;
 use wat_report::{Diagnostic, diagnostic_in, diagnostic_of, text_or_diagnostic};
 
 /// The number of invalid fields whose errors are reported.
@@ -215,8 +217,26 @@ fn notices_of_first(
     }
 }
 
+/// Returns the notices for a text with this masked text, which isn't a module, and the status.
+/// `first` is the first error of the masked text.
+fn notices_of_error(
+    alloc: Global,
+    text: &str,
+    read: &str,
+    first: Error,
+) -> Result<(Vec<Notice>, u8), AllocError>
+    requires text { (ts : List Placed) × IsCut text.now ts }
+    requires cut { (ts : List Placed) × IsCut read.now ts }
+    requires none { IfFault first ((m : ModuleModel) → SpellsModule read.now m → ⊥) }
+    ensures { IfOk result (λ found. ChecksMasked text.now read.now found.0.items found.1) }
+{
+    match first.fault {
+        Fault::Memory => Err(AllocError),
+        _ => Ok((notices_of_first(alloc, text, read, first)?, 1)),
+    }
+}
+
 /// Returns the notices for a text with this masked text, and the status.
-#[tactic(auto, unfolding(crate::specs::Checked::ChecksMasked))]
 fn notices_of_masked(alloc: Global, text: &str, read: &str) -> Result<(Vec<Notice>, u8), AllocError>
     requires text { (ts : List Placed) × IsCut text.now ts }
     requires cut { (ts : List Placed) × IsCut read.now ts }
@@ -225,10 +245,23 @@ fn notices_of_masked(alloc: Global, text: &str, read: &str) -> Result<(Vec<Notic
     let arena = Bump::new(alloc);
     match module_of(alloc, read, &arena) {
         Ok(_) => Ok((Vec::new(alloc), 0)),
-        Err(first) => match first.fault {
-            Fault::Memory => Err(AllocError),
-            _ => Ok((notices_of_first(alloc, text, read, first)?, 1)),
-        },
+        Err(first) => notices_of_error(alloc, text, read, first),
+    }
+}
+
+/// Returns the notices for a text that is its own masked text, and the status.
+fn notices_of_unmasked(
+    alloc: Global,
+    text: &str,
+    tokens: Tokens,
+) -> Result<(Vec<Notice>, u8), AllocError>
+    requires cut { IsCut text.now (placed tokens) }
+    requires skips { AreSkips tokens }
+    ensures { IfOk result (λ found. ChecksMasked text.now text.now found.0.items found.1) }
+{
+    match module_of_tokens(alloc, text, tokens) {
+        Ok(_) => Ok((Vec::new(alloc), 0)),
+        Err(first) => notices_of_error(alloc, text, text, first),
     }
 }
 
@@ -261,14 +294,34 @@ fn notices_of_uncut(
     }
 }
 
+/// Returns the notices for a text with these tokens, and the status.
+fn notices_of_tokens(
+    alloc: Global,
+    text: &str,
+    tokens: Tokens,
+) -> Result<(Vec<Notice>, u8), AllocError>
+    requires cut { IsCut text.now (placed tokens) }
+    requires skips { AreSkips tokens }
+    ensures { IfOk result (λ found. ChecksText text.now found.0.items found.1) }
+{
+    match masked_if_changed(alloc, text, &tokens)? {
+        Some(read) => {
+            drop(tokens);
+            notices_of_masked(alloc, text, read.as_str())
+        }
+        None => notices_of_unmasked(alloc, text, tokens),
+    }
+}
+
 /// Returns the notices for a text, and the status: 0 and no notices if its masked text is a module,
 /// else 1.
 #[tactic(auto, unfolding(crate::specs::Checked::ChecksText))]
 fn notices_of_text(alloc: Global, text: &str) -> Result<(Vec<Notice>, u8), AllocError>
     ensures { IfOk result (λ found. ChecksText text.now found.0.items found.1) }
 {
-    match masked(alloc, text) {
-        Ok(read) => notices_of_masked(alloc, text, read.as_str()),
+    let arena = Bump::new(alloc);
+    match cut(alloc, text, &arena) {
+        Ok(tokens) => notices_of_tokens(alloc, text, tokens),
         Err(error) => notices_of_uncut(alloc, text, error),
     }
 }

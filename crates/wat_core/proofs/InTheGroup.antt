@@ -5,6 +5,7 @@ use Rattle.wat_core.specs.Prelude.{cases_Bool, ModuleModel, module_, IsModule, S
 use Rattle.wat_tokens.specs.State.{IsFresh}
 use Rattle.wat_core.specs.Laws.Sight.{begins_hidden_anyway}
 use Rattle.wat_tokens.specs.Production.{Front}
+use Rattle.wat_tokens.specs.Visible.{placed_behind}
 use Rattle.wat_tokens.specs.Laws.State.{behind_then}
 use Rattle.wat_tokens.specs.Laws.Visible.{tokens_behind}
 use Rattle.wat_tokens.specs.Laws.Groups.{lparen_is}
@@ -84,12 +85,13 @@ pub record Opened (text : List ℕ) (q : State) : Type 0 where
   pub off : q.known ≡ false
 
 pub opened : (text : List ℕ) (p q : State) (u : Unit {0}) → IsFresh text p → one_reads as_lparen p.left ≡ Some (u, q.left) → q.rest ≡ behind_one p.known p.rest → q.known ≡ p.known → Opened text q
+unfolding placed_behind
 opened text p q u (ts, cut, is) reads stands known = record {
   all = ts;
   cut = cut;
   left = q.left;
   opens = sym (ap (λ (s : State). s.left) is) ∙ lparen_is p.left q.left u reads;
-  rest = ap tokens_of (stands ∙ ap (λ (s : State). behind_one s.known s.rest) is) ∙ tokens_behind false ts;
+  rest = ap tokens_of (stands ∙ ap (λ (s : State). behind_one s.known s.rest) is) ∙ tokens_behind false 1 ts;
   off = known ∙ ap (λ (s : State). s.known) is;
 }
 
@@ -103,10 +105,10 @@ module _ (text : List ℕ) (q e : State) (o : Opened text q) where
   off_too known is = is ∙ ap (λ (k : Bool). seen k e.rest) (known ∙ o.off)
 
   -- after the `)` that follows c
-  next : (c : List Token) → tokens_of e.rest ≡ behind true (length c) (tokens_of q.rest) → behind true 1 (tokens_of e.rest) ≡ behind true (length c + 1) (behind false 1 (tokens_of o.all))
-  next c s = ap (λ (r : List Token). behind true 1 r) (s ∙ ap (λ (r : List Token). behind true (length c) r) o.rest) ∙ behind_then true (length c) 1 (behind false 1 (tokens_of o.all))
+  next : (c : List Token) → e.rest ≡ placed_behind true (length c) q.rest → behind true 1 (tokens_of e.rest) ≡ behind true (length c + 1) (behind false 1 (tokens_of o.all))
+  next c s = sym (tokens_behind true 1 e.rest) ∙ ap (λ (ts : List Placed). tokens_of (placed_behind true 1 ts)) s ∙ ap tokens_of (behind_then true (length c) 1 q.rest) ∙ tokens_behind true (length c + 1) q.rest ∙ ap (λ (r : List Token). behind true (length c + 1) r) o.rest
 
-  pub module_found : (m : ModuleModel) → Front module_.spells (annotated q).left (m, (annotated e).left) → ends (annotated e).left ≡ true → ((c : List Token) → (annotated q).left ≡ c ++ (annotated e).left → tokens_of e.rest ≡ behind true (length c) (tokens_of q.rest)) → e.known ≡ q.known → e.left ≡ seen e.known e.rest → e.left ≡ RParen ∷ [] → SpellsModule text m
+  pub module_found : (m : ModuleModel) → Front module_.spells (annotated q).left (m, (annotated e).left) → ends (annotated e).left ≡ true → ((c : List Token) → (annotated q).left ≡ c ++ (annotated e).left → e.rest ≡ placed_behind true (length c) q.rest) → e.known ≡ q.known → e.left ≡ seen e.known e.rest → e.left ≡ RParen ∷ [] → SpellsModule text m
   module_found m (c, cut, spells) end follows known visible_is alone =
       let (more, is, none) = last_seen (tokens_of e.rest) end (sym (off_too known visible_is) ∙ alone) in (
         o.all,
@@ -135,7 +137,7 @@ module _ (text : List ℕ) (q e : State) (o : Opened text q) where
       f s.tokens (RParen ∷ s.more) (inside_is v s) s.spelled
 
   -- and after them only `)` is visible
-  pub module_closes : (v : ModuleModel) → OneCut → SpellsModule text v → ((c r : List Token) → (annotated q).left ≡ c ++ r → module_.spells v c r → (annotated e).left ≡ r) → ((c : List Token) → (annotated q).left ≡ c ++ (annotated e).left → tokens_of e.rest ≡ behind true (length c) (tokens_of q.rest)) → e.known ≡ q.known → e.left ≡ seen e.known e.rest → e.left ≡ RParen ∷ []
+  pub module_closes : (v : ModuleModel) → OneCut → SpellsModule text v → ((c r : List Token) → (annotated q).left ≡ c ++ r → module_.spells v c r → (annotated e).left ≡ r) → ((c : List Token) → (annotated q).left ≡ c ++ (annotated e).left → e.rest ≡ placed_behind true (length c) q.rest) → e.known ≡ q.known → e.left ≡ seen e.known e.rest → e.left ≡ RParen ∷ []
   module_closes v one spelled accepts follows known visible_is =
       let s = this_cut v one spelled in
       let is : (annotated e).left ≡ RParen ∷ s.more = accepts s.tokens (RParen ∷ s.more) (inside_is v s) s.spelled in

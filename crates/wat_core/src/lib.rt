@@ -1,7 +1,7 @@
 //! Modules of the WebAssembly text format (WebAssembly Core Specification, Text Format, "Modules"),
 //! and everything in them.
 //!
-//! - [`read_module`] parses a text that is one module.
+//! - [`read_module`] parses a text that is one module; [`read_module_of`] parses it from its tokens.
 //! - [`Module::parse`] parses a module from the tokens of a [`Parser`].
 //! - [`module_faults`] lists an error in each invalid field of a text that isn't a module.
 //!
@@ -24,7 +24,7 @@ pub mod wrong_fields;
 // Modules and their fields.
 pub use field::{ModuleField, ModuleFieldOf};
 pub use module::{Module, ModuleKind, ModuleKindOf, VisibleModule};
-pub use module_text::read_module;
+pub use module_text::{read_module, read_module_of};
 pub use wrong_fields::{FieldFaults, field_faults, module_faults};
 
 // The parser, its tokens and its faults.

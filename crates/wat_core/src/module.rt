@@ -143,8 +143,9 @@ impl<'a> Module<'a> {
         // The left tokens that are visible with the five names are empty or begin with `)`.
         ensures ends { IfOk result (λ _. ends (annotated parser.new).left ≡ true) }
         // The taken tokens are a prefix of the tokens that were left, and the parser is directly
-        // after that prefix, also on a refusal (`end`, `position`). The taken tokens and their
-        // nesting are counted, and no count fell (`taken`, `within`, `peak`, `grows`).
+        // after that prefix, also on a refusal (`end`, `position`). The tokens left keep their
+        // offsets. The taken tokens and their nesting are counted, and no count fell (`taken`,
+        // `within`, `peak`, `grows`).
         ensures takes { TakesPrefix (annotated parser.old) (annotated parser.new) }
         // The loops over expressions turned at most as often as tokens were taken, or once more on
         // an error.

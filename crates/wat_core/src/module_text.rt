@@ -1,11 +1,14 @@
 //! A module that is a whole text.
 
 ghost use Rattle.std.specs.Prelude.{◌≡◌, ◌≢◌, [], ◌∷◌, IfOk, IfErr, MatchResult};
-ghost use Rattle.wat_core.specs.Prelude.{ModuleModel, module_view, SpellsModule, Memory, RParen};
+ghost use Rattle.wat_fields.specs.Prelude.{AreSkips, placed};
+ghost use Rattle.wat_core.specs.Prelude.{IsCut, ModuleModel, module_view, SpellsModule, Memory, RParen};
 
 use crate::module::Module;
 use bumpalo::Bump;
 use std::alloc::Global;
+use wat_lexer::cut::cut;
+use wat_lexer::tokens::Tokens;
 use wat_tokens::{Error, Parser, one_cut};
 
 /// Takes the `)` that closes the group of a value, and checks that no visible token is left.
@@ -47,9 +50,27 @@ pub fn read_module<'a>(alloc: Global, text: &'a str, arena: &'a Bump) -> Result<
     ensures only { (m : ModuleModel) → SpellsModule text.now m
         → MatchResult result (λ n. module_view n ≡ m) (λ e. e.fault ≡ Memory) }
 {
+    let tokens = cut(alloc, text, arena)?;
+    read_module_of(alloc, text, tokens)
+}
+
+/// Parses a text as [`read_module`] does, from the tokens into which the text was cut.
+pub fn read_module_of<'a>(
+    alloc: Global,
+    text: &str,
+    tokens: Tokens<'a>,
+) -> Result<Module<'a>, Error>
+    requires cut { IsCut text.now (placed tokens) }
+    requires skips { AreSkips tokens }
+    // The text spells the returned module.
+    ensures found { IfOk result (λ m. SpellsModule text.now (module_view m)) }
+    // If the text spells a module, the result is that module, or out of memory.
+    ensures only { (m : ModuleModel) → SpellsModule text.now m
+        → MatchResult result (λ n. module_view n ≡ m) (λ e. e.fault ≡ Memory) }
+{
     // A text has one cut. This law does nothing at run time.
     one_cut();
-    let mut parser = Parser::new(alloc, text, arena)?;
+    let mut parser = Parser::over(alloc, tokens, text.len());
     parser.open()?;
     let module = Module::parse(&mut parser)?;
     closed(&mut parser, module)

@@ -104,6 +104,10 @@ items_behind None = false
 unfoldable pub inline_front : Production (Bool × (Bool × RefTypeModel))
 inline_front = seq (flag (codes "shared")) (seq is_64 ref_type)
 
+-- the spans of what follows the head of a table, by its tokens
+abbrev pub KindSpansAre : List Token → Bool → TableKind → Type 0
+KindSpansAre t tracks k = TableSpansAre (items_behind (inline_front.reads t)) tracks k
+
 -- a table with inline elements, up to `( elem`
 unfoldable pub table_front : Production (FieldHeadModel × (Bool × (Bool × RefTypeModel)))
 table_front = after_word (codes "table") (seq head inline_front)

@@ -3,7 +3,7 @@
 ghost use Rattle.std.specs.Prelude.{◌≡◌, IfOk};
 ghost use Rattle.wat_links.specs.Prelude.{turns_too, Reads, ReadsAt, plain, owning};
 ghost use Rattle.wat_fields.specs.Table.{table_kind_view, heapless_table_kind, begins_prefix, begins_inline_elems, begins_normal, inline_table, normal_table, imported_table, table_kind, TableModel, table_view, heapless_table, table};
-ghost use Rattle.wat_fields.specs.Spans.{TableSpansAre, items_behind, inline_front, has_items};
+ghost use Rattle.wat_fields.specs.Spans.{KindSpansAre, TableSpansAre, has_items};
 
 use crate::payload::{ElemPayload, read_listed};
 use wat_expr::Expression;
@@ -65,8 +65,7 @@ fn read_inline<'a>(parser: &mut Parser<'a>) -> Result<TableKind<'a>>
     ensures reads { ReadsAt turns_too (owning table_kind_view heapless_table_kind) inline_table
         result
         parser.old parser.new }
-    ensures spans { IfOk result (λ k. TableSpansAre (items_behind
-        (inline_front.reads parser.old.left)) parser.old.tracks k) }
+    ensures spans { IfOk result (λ k. KindSpansAre parser.old.left parser.old.tracks k) }
 {
     let shared = parser.flag("shared");
     let is64 = take_is64(parser)?;
@@ -89,8 +88,7 @@ fn read_normal<'a>(parser: &mut Parser<'a>) -> Result<TableKind<'a>>
     ensures reads { ReadsAt turns_too (owning table_kind_view heapless_table_kind) normal_table
         result
         parser.old parser.new }
-    ensures spans { IfOk result (λ k. TableSpansAre (items_behind
-        (inline_front.reads parser.old.left)) parser.old.tracks k) }
+    ensures spans { IfOk result (λ k. KindSpansAre parser.old.left parser.old.tracks k) }
 {
     let ty = TableType::parse(parser)?;
     let init_expr = if parser.is_empty() {
@@ -105,8 +103,7 @@ fn read_normal<'a>(parser: &mut Parser<'a>) -> Result<TableKind<'a>>
 #[tactic(auto, using(wat_links::specs::Laws::NoImport::no_import), unfolding(crate::specs::Table::imported_table))]
 fn read_imported<'a>(parser: &mut Parser<'a>) -> Result<TableKind<'a>>
     ensures reads { Reads (plain table_kind_view) imported_table result parser.old parser.new }
-    ensures spans { IfOk result (λ k. TableSpansAre (items_behind
-        (inline_front.reads parser.old.left)) parser.old.tracks k) }
+    ensures spans { IfOk result (λ k. KindSpansAre parser.old.left parser.old.tracks k) }
 {
     if !parser.peek::<InlineImport>() {
         return Err(parser.unexpected());
@@ -145,8 +142,7 @@ fn normal_next(parser: &Parser<'_>) -> bool
 fn read_table_kind<'a>(parser: &mut Parser<'a>) -> Result<TableKind<'a>>
     ensures reads { ReadsAt turns_too (owning table_kind_view heapless_table_kind) table_kind result
         parser.old parser.new }
-    ensures spans { IfOk result (λ k. TableSpansAre (items_behind
-        (inline_front.reads parser.old.left)) parser.old.tracks k) }
+    ensures spans { IfOk result (λ k. KindSpansAre parser.old.left parser.old.tracks k) }
 {
     if inline_next(parser) {
         return read_inline(parser);

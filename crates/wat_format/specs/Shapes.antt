@@ -1,5 +1,6 @@
 -- Pieces of a text by their shapes.
-use Rattle.std.specs.Prelude.{◌≡◌, ◌≤◌, ◌<◌, ◌+◌, ◌-◌, ℕ, nat_lt, if◌then◌else◌, Bool, true, false, not, ◌==◌, ◌&&◌, ◌⊎◌, List, [], ◌∷◌, ◌++◌, length, drop, replicate, slice_index}
+use Rattle.std.specs.Prelude.{◌≡◌, ◌≤◌, ◌<◌, ◌+◌, ◌-◌, ℕ, nat_lt, if◌then◌else◌, Bool, true, false, not, ◌==◌, ◌&&◌, ◌⊎◌, List, [], ◌∷◌, ◌++◌, length, drop, replicate, slice_index, codes}
+use Prim.Native.Char.{code}
 use Rattle.wat_lexer.specs.Prelude.{AllByRecursion, is_space, is_line_end, Inside, Begins, Run, in_no_run, Broken, offset_of, class, LParen, RParen}
 use Rattle.wat_lexer.specs.declared.fault.Error.{Error}
 use Rattle.wat_format.specs.Parts.{Part, a_token, a_comment}
@@ -13,10 +14,10 @@ is_opening _ = false
 -- bytes of the shape
 abbrev pub IsOfShape : Shape → List ℕ → Type 0
 IsOfShape of.Line x =
-    (y : List ℕ) × (x ≡ 59 ∷ 59 ∷ y) × AllByRecursion (λ b. is_line_end b ≡ false) y
-IsOfShape of.Block x = (y : List ℕ) × (x ≡ 40 ∷ 59 ∷ y) × Inside 0 y
-IsOfShape of.Open x = x ≡ 40 ∷ []
-IsOfShape of.Close x = x ≡ 41 ∷ []
+    (y : List ℕ) × (x ≡ codes ";;" ++ y) × AllByRecursion (λ b. is_line_end b ≡ false) y
+IsOfShape of.Block x = (y : List ℕ) × (x ≡ codes "(;" ++ y) × Inside 0 y
+IsOfShape of.Open x = x ≡ codes "("
+IsOfShape of.Close x = x ≡ codes ")"
 IsOfShape of.Word x = (0 < length x) × Run x
 
 -- the bytes as a part; the flag is whether a `(` is directly before the bytes
@@ -31,7 +32,7 @@ part_of behind of.Word x = a_token x (class behind x)
 abbrev pub follows : Shape → ℕ → Bool
 follows of.Line b = is_line_end b
 follows of.Block b = true
-follows of.Open b = not (b == 59)
+follows of.Open b = not (b == code ";")
 follows of.Close b = true
 follows of.Word b = in_no_run b
 
@@ -50,7 +51,7 @@ WrongAt text at e =
 
 -- line ends, and then spaces
 abbrev pub gap_bytes : ℕ → ℕ → List ℕ
-gap_bytes lines spaces = replicate lines 10 ++ replicate spaces 32
+gap_bytes lines spaces = replicate lines (code "\n") ++ replicate spaces (code " ")
 
 -- no line ends and no spaces
 abbrev pub no_gap : ℕ → ℕ → Bool
@@ -58,7 +59,8 @@ no_gap lines spaces = (lines == 0) && (spaces == 0)
 
 -- the first byte of a gap and the byte after the gap
 abbrev pub gap_first : ℕ → ℕ → ℕ → ℕ
-gap_first lines spaces b = if nat_lt 0 lines then 10 else (if nat_lt 0 spaces then 32 else b)
+gap_first lines spaces b =
+    if nat_lt 0 lines then code "\n" else (if nat_lt 0 spaces then code " " else b)
 
 abbrev pub no_bytes : List ℕ → Bool
 no_bytes [] = true
@@ -72,7 +74,7 @@ AllSpaces x = AllByRecursion (λ b. is_space b ≡ true) x
 abbrev pub Separates : Shape → List ℕ → ℕ → List ℕ → Type 0
 Separates last blanks first x =
     AllSpaces x × Follows last (x ++ first ∷ [])
-    × (first ≡ 64 → no_bytes x && is_opening last ≡ no_bytes blanks && is_opening last)
+    × (first ≡ code "@" → no_bytes x && is_opening last ≡ no_bytes blanks && is_opening last)
 
 -- the number of open groups after a piece
 abbrev pub groups_behind : Shape → ℕ → ℕ

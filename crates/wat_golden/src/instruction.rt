@@ -12,16 +12,59 @@ use wat_core::{Error, Expression, FoldedInstruction, Instruction, Op, Parse, Par
 use wat_print::{Layout, Refused, print};
 use wat_print_instr::Code;
 
-/// An instruction, of which Debug writes its word, its name and its operand.
+/// An opcode that was written into an empty vector.
 #[derive(Drop)]
-struct Whole<'a>(Instruction<'a>);
+struct Written {
+    /// How many bytes the call says that it wrote.
+    count: Option<usize>,
+    /// The bytes.
+    bytes: Vec<u8>,
+}
+
+impl fmt::Debug for Written {
+    /// Writes the bytes, or a dash if there is no opcode.
+    fn fmt<W: fmt::Write>(&self, f: &mut fmt::Formatter<W>) -> fmt::Result {
+        match self.count {
+            Some(count) if count == self.bytes.len() => {}
+            Some(count) => write!(f, "? {count} bytes: ")?,
+            None => write!(f, "-")?,
+        }
+        for byte in &self.bytes {
+            write!(f, "{byte:02X}")?;
+        }
+        Ok(())
+    }
+}
+
+/// An instruction, of which Debug writes its word, its name, its opcode and its operand.
+#[derive(Drop)]
+struct Whole<'a> {
+    instruction: Instruction<'a>,
+    opcode: Written,
+}
 
 impl fmt::Debug for Whole<'_> {
     fn fmt<W: fmt::Write>(&self, f: &mut fmt::Formatter<W>) -> fmt::Result {
-        let word = &self.0;
-        let name = self.0.op();
-        write!(f, "{word:?} {name:?} ")?;
-        add_operand(f, &self.0)
+        let word = &self.instruction;
+        let name = self.instruction.op();
+        let opcode = &self.opcode;
+        write!(f, "{word:?} {name:?} {opcode:?} ")?;
+        add_operand(f, &self.instruction)
+    }
+}
+
+/// An instruction with its opcode.
+fn with_opcode<'a>(alloc: Global, instruction: Instruction<'a>) -> Result<Whole<'a>, Error> {
+    let mut bytes = Vec::new(alloc);
+    match instruction.write_opcode(&mut bytes) {
+        Ok(count) => Ok(Whole {
+            instruction,
+            opcode: Written { count, bytes },
+        }),
+        Err(error) => {
+            forget(instruction);
+            Err(error)
+        }
     }
 }
 
@@ -29,9 +72,9 @@ impl fmt::Debug for Whole<'_> {
 struct OfInstructions;
 
 impl<'a> Reader<'a, Whole<'a>> for OfInstructions {
-    fn read(_: &Row<'a>, parser: &mut Parser<'a>) -> Result<Whole<'a>, Error> {
+    fn read(row: &Row<'a>, parser: &mut Parser<'a>) -> Result<Whole<'a>, Error> {
         match Instruction::parse(parser) {
-            Ok(instruction) => Ok(Whole(instruction)),
+            Ok(instruction) => with_opcode(row.alloc, instruction),
             Err(error) => Err(error),
         }
     }
@@ -39,32 +82,30 @@ impl<'a> Reader<'a, Whole<'a>> for OfInstructions {
 
 impl<'a> Printer<Whole<'a>> for OfInstructions {
     fn print(alloc: Global, value: &Whole<'a>, layout: Layout) -> Option<Result<String, Refused>> {
-        Some(print(alloc, &Code(&value.0), layout))
+        Some(print(alloc, &Code(&value.instruction), layout))
     }
 }
 
 impl<'a> Copier<Whole<'a>> for OfInstructions {
     fn copy(value: &Whole<'a>) -> Option<Result<Whole<'a>, Error>> {
-        match value.0.clone() {
-            Ok(copy) => Some(Ok(Whole(copy))),
+        let alloc = *value.opcode.bytes.allocator();
+        match value.instruction.clone() {
+            Ok(copy) => Some(with_opcode(alloc, copy)),
             Err(error) => Some(Err(error)),
         }
     }
 }
 
-/// Adds the bytes of an opcode, or a dash if there is none.
+/// Adds the opcode of an instruction without its operand.
 fn add_opcode(out: &mut String, row: &Row<'_>, op: Op) -> Result<(), AllocError> {
     let mut bytes = Vec::new(row.alloc);
     match op.opcode().write(&mut bytes) {
-        Ok(Some(count)) if count == bytes.len() => {}
-        Ok(Some(_)) => out.push_str("? miscounted")?,
-        Ok(None) => out.push('-')?,
-        Err(_) => return Err(AllocError),
+        Ok(count) => {
+            let opcode = Written { count, bytes };
+            write!(out, "{opcode:?}")
+        }
+        Err(_) => Err(AllocError),
     }
-    for byte in &bytes {
-        write!(out, "{byte:02X}")?;
-    }
-    Ok(())
 }
 
 /// Adds the name of an instruction without its operand, its word, and its opcode.

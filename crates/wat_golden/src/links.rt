@@ -3,7 +3,8 @@
 use crate::copies::{Cloned, Uncopied};
 use crate::printers::{OfModules, Unprinted};
 use crate::readers::{Bare, Grouped, Reader};
-use crate::row::{Row, add};
+use crate::repeated::{COUNTS, expanded};
+use crate::row::{Row, add, add_refusal, read};
 use std::alloc::{AllocError, Global};
 use std::mem::forget;
 use wat_core::{
@@ -21,6 +22,21 @@ struct Told {
     sigs: usize,
     /// The word and the place of the signature of each item.
     item_sigs: Vec<(&'static str, usize)>,
+}
+
+/// Neighbouring items with signatures of one kind, at places with equal distances.
+#[derive(Drop)]
+struct Run {
+    /// The word of the signatures' kind.
+    word: &'static str,
+    /// The place of the first signature.
+    first: usize,
+    /// The place of the last one.
+    last: usize,
+    /// How far each is from the one before it.
+    distance: usize,
+    /// How many items there are.
+    items: usize,
 }
 
 /// A summary of a custom section.
@@ -65,6 +81,74 @@ fn tell(alloc: Global, imports: &Imports<'_>) -> Result<Told, Error> {
         sigs: imports.num_sigs(),
         item_sigs,
     })
+}
+
+impl Run {
+    /// Adds the next item if it belongs to the run, and returns whether it does.
+    fn takes(&mut self, (word, place): (&'static str, usize)) -> bool {
+        let distance = place.wrapping_sub(self.last);
+        if word != self.word || (self.items > 1 && distance != self.distance) {
+            return false;
+        }
+        self.last = place;
+        self.distance = distance;
+        self.items = self.items.saturating_add(1);
+        true
+    }
+}
+
+/// Adds the runs of items: the number of items of each, their word, the first place and the
+/// distance.
+fn add_runs(out: &mut String, sigs: &[(&'static str, usize)]) -> Result<(), AllocError> {
+    let mut runs: Vec<Run> = Vec::new(*out.allocator());
+    for (word, place) in sigs {
+        let sig = (*word, *place);
+        let is_taken = runs.last_mut().is_some_and(|run| run.takes(sig));
+        if !is_taken {
+            runs.push(Run {
+                word: *word,
+                first: *place,
+                last: *place,
+                distance: 0,
+                items: 1,
+            })?;
+        }
+    }
+    for Run {
+        word,
+        first,
+        distance,
+        items,
+        ..
+    } in &runs {
+        write!(out, "; {items} {word} from {first} by {distance}")?;
+    }
+    Ok(())
+}
+
+/// Adds a line for each number of members: how many items and signatures the import has, and the
+/// runs of its items.
+fn add_signatures<'a>(out: &mut String, row: &Row<'a>) -> Result<bool, AllocError> {
+    for count in COUNTS {
+        let text: &'a str = row
+            .arena
+            .try_alloc_str(&expanded(row.alloc, row.text, count)?)?;
+        match read::<Told, OfItself>(row, text, false) {
+            Ok(
+                Told {
+                    items,
+                    sigs,
+                    item_sigs,
+                },
+            ) => {
+                write!(out, "= items {items}, signatures {sigs}")?;
+                add_runs(out, &item_sigs)?;
+                out.push_str("\n")?;
+            }
+            Err(error) => add_refusal(out, error)?,
+        }
+    }
+    Ok(true)
 }
 
 /// A summary of a custom section.
@@ -118,6 +202,7 @@ fn add_custom<'a>(out: &mut String, row: &Row<'a>) -> Result<bool, AllocError> {
 pub fn add_row<'a>(out: &mut String, row: &Row<'a>) -> Result<bool, AllocError> {
     match row.kind {
         "imports" => add::<Imports<'a>, Bare, OfModules, Cloned>(out, row),
+        "signatures" if row.words == "times" => add_signatures(out, row),
         "signatures" => add::<Told, OfItself, Unprinted, Uncopied>(out, row),
         "item" => add::<ItemSig<'a>, Bare, OfModules, Cloned>(out, row),
         "inline_import" => add::<InlineImport<'a>, Bare, OfModules, Uncopied>(out, row),

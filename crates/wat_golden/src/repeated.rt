@@ -4,7 +4,8 @@
 //! `{` and `}`, and the number of the member replaces its first `#`. PRINTED is the text that is
 //! printed of the value on one line, or what Debug writes of it if its kind isn't printed, without
 //! spaces at its ends. It is the same text if it is left out. PRINTED OF NONE replaces it where
-//! there are no members.
+//! there are no members. A row of the kind `signatures` has no second text: its module, `links`,
+//! prints a line for each number of members.
 
 use crate::copies::Copier;
 use crate::printers::Printer;
@@ -16,7 +17,7 @@ use std::mem::forget;
 use wat_print::Layout;
 
 /// The numbers of members.
-const COUNTS: [usize; 4] = [0, 1, 2, 1000];
+pub const COUNTS: [usize; 4] = [0, 1, 2, 1000];
 
 /// Adds a member with its number.
 fn add_member(out: &mut String, member: &str, number: usize) -> Result<(), AllocError> {
@@ -38,7 +39,7 @@ fn add_piece(out: &mut String, piece: &str, count: usize) -> Result<(), AllocErr
 }
 
 /// The text of a pattern with so many members.
-fn expanded(alloc: Global, pattern: &str, count: usize) -> Result<String, AllocError> {
+pub fn expanded(alloc: Global, pattern: &str, count: usize) -> Result<String, AllocError> {
     let mut out = String::new(alloc);
     for piece in pattern.split('{') {
         add_piece(&mut out, piece, count)?;

@@ -1,7 +1,7 @@
 -- Which tokens may follow an instruction, and which questions they answer with no.
 use Rattle.std.proofs.Common.{bytes_eq, ◌≡◌, ℕ, Bool, true, false, List, [], ◌∷◌, codes, refl, subst, sym, ◌∙◌, is_some, not, ◌&&◌, ◌||◌}
 use Rattle.wat_mnemonics.specs.Prelude.{first_so, second_so, or_from, or_parts, not-true, bytes_eq-Decides, Token, RParen, Keyword, a_rparen, a_word, past_front, by_test, starts, after, either, second}
-use Rattle.wat_tokens.specs.Kind.{Kind, word_where, word_from, fits, next_is}
+use Rattle.wat_tokens.specs.Kind.{Kind, word_from, content_where, fits, next_is}
 use Rattle.wat_tokens.specs.Test.{Question, answer}
 
 -- ---- what may follow
@@ -31,7 +31,7 @@ may_follow (_ ∷ r) = false
 abbrev pub off_kind : Kind → Bool
 off_kind (a_word w) = is_asked w
 off_kind (word_from p) = bytes_eq p (codes "offset=") || bytes_eq p (codes "align=")
-off_kind (word_where f) = false
+off_kind (content_where f) = false
 off_kind a_rparen = false
 off_kind _ = true
 
@@ -63,7 +63,7 @@ no_front p w o f =
 off_fits : (k : Kind) (x : Token) (r : List Token) → off_kind k ≡ true → may_follow (x ∷ r) ≡ true → fits k x ≡ false
 off_fits (a_word v) (Keyword w) r o f = apart is_asked v w o (not-true (is_asked w) (first_so (not (is_asked w)) (is_untyped r) f))
 off_fits (word_from p) (Keyword w) r o f = no_front p w o (not-true (is_asked w) (first_so (not (is_asked w)) (is_untyped r) f))
-off_fits (word_where g) (Keyword w) r o f = absurd cc
+off_fits (content_where g) x r o f = absurd cc
 off_fits k (Keyword w) r o f = refl
 off_fits a_rparen RParen r o f = absurd cc
 off_fits k RParen r o f = refl

@@ -1,6 +1,6 @@
 -- The classes of runs of idchars, at an offset of the text.
-use Rattle.std.proofs.Common.{◌≡◌, ℕ, zero, suc, ◌+◌, ◌-◌, ◌<◌, ◌≤◌, List, [], ◌∷◌, length, drop, get_or, refl, arith, drop-drop, get_or-drop, get_or-take, length-drop, length-take, Bool, true, false, slice_range, ◌==◌, ◌&&◌, ◌*◌, if◌then◌else◌, Some, None, is_some}
-use Rattle.wat_lexer.specs.Laws.Prelude.{digit_value, and_parts, nat_tests, is_idchar, between, is_integer, read, begins_hex, Keyword, Id, Annotation, Integer, Reserved, all_idchars, name_behind, or_reserved, class, excluded, at_front, at_front_two, idchar_ascii}
+use Rattle.std.proofs.Common.{◌≡◌, ℕ, zero, suc, ◌+◌, ◌-◌, ◌<◌, ◌≤◌, List, [], ◌∷◌, length, drop, get_or, refl, arith, drop-drop, get_or-drop, get_or-take, length-drop, length-take, Bool, true, false, slice_range, ◌==◌, ◌&&◌, ◌*◌, if◌then◌else◌, Some, None, is_some, inl, inr}
+use Rattle.wat_lexer.specs.Laws.Prelude.{digit_value, and_parts, cases_lt, nat_tests, is_idchar, between, is_integer, read, begins_hex, Keyword, Id, Annotation, Integer, Reserved, all_idchars, name_behind, or_reserved, class, excluded, at_front, at_front_two, idchar_ascii}
 use Rattle.wat_lexer.proofs.Values.{read_step, read_over}
 
 pub slice_front : (from end : ℕ) (s : List ℕ) → from < end → end ≤ length s → slice_range s from end ≡ get_or s from 0 ∷ slice_range s (from + 1) end
@@ -50,6 +50,13 @@ plain_ascii from end i s within all h k =
     let place : from + (i - from) ≡ i = omega arith in
     let at = all_at (slice_range s from end) (i - from) all (omega (arith, length-take (end - from) (drop from s), length-drop from s)) in
     idchar_ascii (get_or s i 0) (rw (get_or-take (end - from) (drop from s) (i - from) 0 (omega arith), get_or-drop, place) at at)
+
+-- the last byte of a run that goes on with idchars
+pub plain_last : (from end : ℕ) (s : List ℕ) → from ≤ end → end ≤ length s → all_idchars (slice_range s from end) ≡ true → 0 < end → (from ≡ end → get_or s (end - 1) 0 < 128) → get_or s (end - 1) 0 < 128
+plain_last from end s order within all some same = elim (cases_lt from end) [
+  | inl l ↦ plain_ascii from end (end - 1) s within all (omega arith) (omega arith)
+  | inr g ↦ same (omega arith)
+]
 
 pub ruleset plain_kinds = (plain_here, plain_name, plain_alone, plain_ascii)
 

@@ -1,5 +1,6 @@
 -- How a text is cut into tokens.
-use Rattle.std.specs.Prelude.{◌≡◌, ℕ, ◌+◌, ◌-◌, ◌*◌, ◌<◌, Bool, true, false, List, [], ◌∷◌, ◌++◌, length, Option, Some, None, ◌⊎◌, ◌==◌, ◌&&◌, not, nat_lt, nat_le, if◌then◌else◌, encode_utf8, slice_get, drop}
+use Rattle.std.specs.Prelude.{◌≡◌, ℕ, ◌+◌, ◌-◌, ◌*◌, ◌<◌, Bool, true, false, List, [], ◌∷◌, ◌++◌, length, Option, Some, None, ◌⊎◌, ◌==◌, ◌&&◌, not, nat_lt, nat_le, if◌then◌else◌, encode_utf8, slice_get, drop, codes}
+use Prim.Native.Char.{code}
 use Rattle.std.specs.List.{AllByRecursion}
 use Rattle.std.specs.Char.{digit_value, IsScalar}
 use Rattle.std.specs.Str.{IsUtf8}
@@ -14,14 +15,15 @@ use Rattle.wat_lexer.specs.declared.fault.Fault.TheVariants.{LexChar, LexString,
 
 -- a raw byte of a string: a byte of any character from U+0020 on, except U+007F, `"` and `\`
 abbrev pub is_raw : ℕ → Bool
-is_raw b = nat_le 32 b && (not (b == 127) && (not (b == 34) && not (b == 92)))
+is_raw b = nat_le 0x20 b && (not (b == 0x7f) && (not (b == code "\"") && not (b == code "\\")))
 
--- t n r " ' \
+-- the byte that a backslash and the character spell
 abbrev pub short_escape : ℕ → Option ℕ
 short_escape c =
-    if c == 116 then Some 9 else (if c == 110 then Some 10 else (if c == 114 then Some 13
-    else (if c == 34 then Some 34 else (if c == 39 then Some 39
-    else (if c == 92 then Some 92 else None)))))
+    if c == code "t" then Some (code "\t") else (if c == code "n" then Some (code "\n")
+    else (if c == code "r" then Some (code "\r") else (if c == code "\"" then Some (code "\"")
+    else (if c == code "'" then Some (code "'")
+    else (if c == code "\\" then Some (code "\\") else None)))))
 
 abbrev pub is_hex : ℕ → Bool
 is_hex c = nat_lt (digit_value c) 16
@@ -29,19 +31,19 @@ is_hex c = nat_lt (digit_value c) 16
 -- one element of a string, and the bytes that it spells
 pub data Element : List ℕ → List ℕ → Type 0 where
   raw_byte : (b : ℕ) → is_raw b ≡ true → Element (b ∷ []) (b ∷ [])
-  short_form : (c v : ℕ) → short_escape c ≡ Some v → Element (92 ∷ c ∷ []) (v ∷ [])
+  short_form : (c v : ℕ) → short_escape c ≡ Some v → Element (code "\\" ∷ c ∷ []) (v ∷ [])
   hex_byte : (h l : ℕ) → is_hex h ≡ true → is_hex l ≡ true
-      → Element (92 ∷ h ∷ l ∷ []) ((digit_value h * 16 + digit_value l) ∷ [])
+      → Element (code "\\" ∷ h ∷ l ∷ []) ((digit_value h * 16 + digit_value l) ∷ [])
   code_point : (x : List ℕ) (n : ℕ) → number 16 x ≡ Some n → IsScalar n
-      → Element (92 ∷ 117 ∷ 123 ∷ (x ++ 125 ∷ [])) (encode_utf8 n)
+      → Element (codes "\\u{" ++ (x ++ codes "}")) (encode_utf8 n)
 
 -- the bytes after the opening quote, with the closing quote, and the content of the string
 pub data Str : List ℕ → List ℕ → Type 0 where
-  close : Str (34 ∷ []) []
+  close : Str (codes "\"") []
   more : (x v y c : List ℕ) → Element x v → Str y c → Str (x ++ y) (v ++ c)
 
 abbrev pub IsString : List ℕ → List ℕ → Type 0
-IsString x c = (y : List ℕ) × (x ≡ 34 ∷ y) × Str y c
+IsString x c = (y : List ℕ) × (x ≡ code "\"" ∷ y) × Str y c
 
 -- BLANKS
 
@@ -52,11 +54,11 @@ begins b (c ∷ _) = c == b
 
 -- After the `(;` of a comment in which depth more comments are open, up to the `;)` that closes it.
 pub data Inside : ℕ → List ℕ → Type 0 where
-  last : Inside 0 (59 ∷ 41 ∷ [])
-  closed : (depth : ℕ) (x : List ℕ) → Inside depth x → Inside (depth + 1) (59 ∷ 41 ∷ x)
-  opened : (depth : ℕ) (x : List ℕ) → Inside (depth + 1) x → Inside depth (40 ∷ 59 ∷ x)
-  other : (depth b c : ℕ) (x : List ℕ) → (b == 40) && (c == 59) ≡ false
-      → (b == 59) && (c == 41) ≡ false → Inside depth (c ∷ x) → Inside depth (b ∷ c ∷ x)
+  last : Inside 0 (codes ";)")
+  closed : (depth : ℕ) (x : List ℕ) → Inside depth x → Inside (depth + 1) (codes ";)" ++ x)
+  opened : (depth : ℕ) (x : List ℕ) → Inside (depth + 1) x → Inside depth (codes "(;" ++ x)
+  other : (depth b c : ℕ) (x : List ℕ) → (b == code "(") && (c == code ";") ≡ false
+      → (b == code ";") && (c == code ")") ≡ false → Inside depth (c ∷ x) → Inside depth (b ∷ c ∷ x)
 
 -- the next byte, if any, passes the test
 abbrev pub Begins : (ℕ → Bool) → List ℕ → Type 0
@@ -67,8 +69,8 @@ Begins test (b ∷ _) = test b ≡ true
 pub data Blank : List ℕ → List ℕ → Type 0 where
   space : (b : ℕ) (rest : List ℕ) → is_space b ≡ true → Blank (b ∷ []) rest
   line : (x rest : List ℕ) → AllByRecursion (λ b. is_line_end b ≡ false) x → Begins is_line_end rest
-      → Blank (59 ∷ 59 ∷ x) rest
-  block : (x rest : List ℕ) → Inside 0 x → Blank (40 ∷ 59 ∷ x) rest
+      → Blank (codes ";;" ++ x) rest
+  block : (x rest : List ℕ) → Inside 0 x → Blank (codes "(;" ++ x) rest
 
 -- TOKENS
 
@@ -76,10 +78,10 @@ pub data Blank : List ℕ → List ℕ → Type 0 where
 pub data Run : List ℕ → Type 0 where
   none : Run []
   idchar : (b : ℕ) (x : List ℕ) → is_idchar b ≡ true → Run x → Run (b ∷ x)
-  string : (y c x : List ℕ) → Str y c → Run x → Run (34 ∷ (y ++ x))
+  string : (y c x : List ℕ) → Str y c → Run x → Run (code "\"" ∷ (y ++ x))
 
 abbrev pub in_no_run : ℕ → Bool
-in_no_run b = not (is_idchar b) && not (b == 34)
+in_no_run b = not (is_idchar b) && not (b == code "\"")
 
 abbrev pub Idchars : List ℕ → Type 0
 Idchars x = AllByRecursion (λ b. is_idchar b ≡ true) x
@@ -93,9 +95,10 @@ Name mark x n =
 -- The class and the content of a run. The flag is true if a `(` is directly before the run.
 abbrev pub Classed : Bool → List ℕ → Token → Type 0
 Classed behind x (Keyword k) =
-    (x ≡ k) × Idchars x × (b : ℕ) × (y : List ℕ) × (x ≡ b ∷ y) × (between 97 122 b ≡ true)
-Classed behind x (Id n) = Name 36 x n
-Classed behind x (Annotation n) = (behind ≡ true) × Name 64 x n
+    (x ≡ k) × Idchars x × (b : ℕ) × (y : List ℕ) × (x ≡ b ∷ y)
+    × (between (code "a") (code "z") b ≡ true)
+Classed behind x (Id n) = Name (code "$") x n
+Classed behind x (Annotation n) = (behind ≡ true) × Name (code "@") x n
 Classed behind x (Integer k) = (x ≡ k) × Idchars x × (is_integer x ≡ true)
 Classed behind x (String c) = IsString x c
 Classed behind x LParen = ⊥
@@ -104,8 +107,8 @@ Classed behind x (Reserved k) = ⊥
 
 -- a token that the rest can follow
 abbrev pub IsToken : Bool → List ℕ → List ℕ → Token → Type 0
-IsToken behind x rest LParen = (x ≡ 40 ∷ []) × Begins (λ b. not (b == 59)) rest
-IsToken behind x rest RParen = x ≡ 41 ∷ []
+IsToken behind x rest LParen = (x ≡ codes "(") × Begins (λ b. not (b == code ";")) rest
+IsToken behind x rest RParen = x ≡ codes ")"
 IsToken behind x rest (Reserved k) =
     (x ≡ k) × (0 < length x) × Run x × Begins in_no_run rest × ((t : Token) → Classed behind x t
     → ⊥)
@@ -145,13 +148,14 @@ IsCut text ts = Cuts (length text) false text ts × Closed (tokens_of ts)
 -- offset is that of a character that begins no token and no blank, of the `(` of a comment that
 -- isn't closed, or of the opening quote of an invalid string in a run.
 pub data Broken : List ℕ → Fault → List ℕ → Type 0 where
-  wrong_char : (b : ℕ) (rest : List ℕ) → is_space b ≡ false → in_no_run b ≡ true → (b == 40) ≡ false
-      → (b == 41) ≡ false → (b == 59) && begins 59 rest ≡ false
+  wrong_char : (b : ℕ) (rest : List ℕ) → is_space b ≡ false → in_no_run b ≡ true
+      → (b == code "(") ≡ false → (b == code ")") ≡ false
+      → (b == code ";") && begins (code ";") rest ≡ false
       → Broken (b ∷ rest) LexChar (b ∷ rest)
   open_comment : (rest : List ℕ) → ((x more : List ℕ) → rest ≡ x ++ more → Inside 0 x → ⊥)
-      → Broken (40 ∷ 59 ∷ rest) LexComment (40 ∷ 59 ∷ rest)
+      → Broken (codes "(;" ++ rest) LexComment (codes "(;" ++ rest)
   wrong_string : (x rest : List ℕ) → Run x → ((y c more : List ℕ) → rest ≡ y ++ more → Str y c → ⊥)
-      → Broken (x ++ 34 ∷ rest) LexString (34 ∷ rest)
+      → Broken (x ++ code "\"" ∷ rest) LexString (code "\"" ∷ rest)
 
 -- after blanks and tokens, a place where no blank and no token begins
 pub data Fails : Bool → List ℕ → Fault → List ℕ → Type 0 where

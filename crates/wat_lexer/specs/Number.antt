@@ -1,6 +1,7 @@
 -- Integers, and their values in a number of bits. An integer is an optional sign, and then digits,
 -- or `0x` and hex digits, with single `_` between digits.
 use Rattle.std.specs.Prelude.{ℕ, ◌+◌, ◌-◌, ◌*◌, ◌^◌, Bool, true, false, List, [], ◌∷◌, drop, Option, Some, None, option_map, is_some, ◌==◌, ◌&&◌, ◌||◌, nat_lt, nat_le, if◌then◌else◌, ℤ, pos, neg_ℤ, ◌-ℤ◌}
+use Prim.Native.Char.{code}
 use Rattle.std.specs.Char.{digit_value}
 use Rattle.wat_lexer.specs.declared.number.Sign.{Sign}
 use Rattle.wat_lexer.specs.declared.number.Sign.TheVariants.{Plus, Minus}
@@ -8,12 +9,12 @@ use Rattle.wat_lexer.specs.declared.number.Sign.TheVariants.{Plus, Minus}
 -- DIGITS
 
 -- Reads on. The digits so far have the value n. The flag is true if a digit is directly before. A
--- digit is valid anywhere. A `_` (95) and the end are valid only directly after a digit.
+-- digit is valid anywhere. A `_` and the end are valid only directly after a digit.
 unfoldable pub read : ℕ → Bool → ℕ → List ℕ → Option ℕ
 read base behind n [] = if behind then Some n else None
 read base behind n (c ∷ t) =
     if nat_lt (digit_value c) base then read base true (n * base + digit_value c) t
-    else (if behind && (c == 95) then read base false n t else None)
+    else (if behind && (c == code "_") then read base false n t else None)
 
 -- the value of digits of a base, with single `_` between digits; there is at least one digit
 abbrev pub number : ℕ → List ℕ → Option ℕ
@@ -23,7 +24,7 @@ number base x = read base false 0 x
 abbrev pub begins_hex : List ℕ → Bool
 begins_hex [] = false
 begins_hex (a ∷ []) = false
-begins_hex (a ∷ b ∷ _) = (a == 48) && (b == 120)
+begins_hex (a ∷ b ∷ _) = (a == code "0") && (b == code "x")
 
 -- the value of decimal digits, or of `0x` and hex digits
 abbrev pub magnitude : List ℕ → Option ℕ
@@ -31,15 +32,15 @@ magnitude x = if begins_hex x then number 16 (drop 2 x) else number 10 x
 
 -- SIGNS
 
--- the sign in front: `+` (43) or `-` (45)
+-- the sign in front: `+` or `-`
 abbrev pub sign_of : List ℕ → Option Sign
 sign_of [] = None
-sign_of (c ∷ _) = if c == 43 then Some Plus else (if c == 45 then Some Minus else None)
+sign_of (c ∷ _) = if c == code "+" then Some Plus else (if c == code "-" then Some Minus else None)
 
 -- the bytes after the sign, or all bytes if there is no sign
 abbrev pub without_sign : List ℕ → List ℕ
 without_sign [] = []
-without_sign (c ∷ t) = if (c == 43) || (c == 45) then t else c ∷ t
+without_sign (c ∷ t) = if (c == code "+") || (c == code "-") then t else c ∷ t
 
 abbrev pub is_integer : List ℕ → Bool
 is_integer x = is_some (magnitude (without_sign x))

@@ -1,5 +1,5 @@
 -- Example texts, and their tokens with offsets in bytes.
-use Rattle.std.specs.Prelude.{neg_ℤ, ◌≡◌, ℕ, List, [], ◌∷◌, codes, true, false, Some, None, pos}
+use Rattle.std.specs.Prelude.{neg_ℤ, ◌≡◌, ℕ, List, [], ◌∷◌, codes, ◌++◌, true, false, Some, None, pos}
 use Rattle.wat_lexer.specs.Prelude.{Token, LParen, RParen, Keyword, Id, Annotation, Integer, String, Reserved, Placed, IsCut, FirstFault, unsigned_value, signed_value, hidden_count, visible_tokens}
 use Rattle.wat_lexer.specs.declared.fault.Fault.TheVariants.{LexChar, LexString, LexComment, LexAnnotation}
 
@@ -12,12 +12,13 @@ Comments =
     IsCut (codes "(a ;;b(\n(;(;;)\";)c)")
     (at 0 LParen ∷ at 1 (Keyword (codes "a")) ∷ at 17 (Keyword (codes "c")) ∷ at 18 RParen ∷ [])
 
--- a string with the escapes of a tab, the letter A and U+1F600, and a string without escapes
+-- a string with the escapes of a tab, the letter A and U+1F600 (F0 9F 98 80 in UTF-8), and a string
+-- without escapes
 abbrev pub Strings : Type 0
 Strings =
     IsCut (codes "\"a\\t\\41\\u{1_f600}\" \"b c\"")
-    (at 0 (String (97 ∷ 9 ∷ 65 ∷ 240 ∷ 159 ∷ 152 ∷ 128 ∷ []))
-    ∷ at 19 (String (98 ∷ 32 ∷ 99 ∷ [])) ∷ [])
+    (at 0 (String (codes "a\tA" ++ (0xf0 ∷ 0x9f ∷ 0x98 ∷ 0x80 ∷ [])))
+    ∷ at 19 (String (codes "b c")) ∷ [])
 
 -- `$x $"a b" (@"n" c)`
 abbrev pub QuotedNames : Type 0

@@ -1,5 +1,6 @@
 -- The ends of comments, strings and runs, and the blank or token in front of a text.
 use Rattle.std.specs.Prelude.{◌≡◌, ◌≤◌, ◌<◌, drop, slice_range, Result, Ok, Err, ℕ, ◌+◌, ◌-◌, ◌*◌, Bool, true, false, List, [], ◌∷◌, ◌++◌, take, length, Option, Some, None, option_map, ◌==◌, ◌&&◌, nat_lt, if◌then◌else◌, encode_utf8}
+use Prim.Native.Char.{code}
 use Rattle.std.specs.Char.{digit_value}
 use Rattle.std.specs.Str.{is_utf8}
 use lib.Utf8.{scalar}
@@ -17,8 +18,8 @@ unfoldable pub behind_comment : ℕ → List ℕ → Option (List ℕ)
 behind_comment depth [] = None
 behind_comment depth (a ∷ []) = None
 behind_comment depth (a ∷ b ∷ t) =
-    if (a == 40) && (b == 59) then behind_comment (depth + 1) t
-    else (if (a == 59) && (b == 41)
+    if (a == code "(") && (b == code ";") then behind_comment (depth + 1) t
+    else (if (a == code ";") && (b == code ")")
     then (if depth == 0 then Some t else behind_comment (depth - 1) t)
     else behind_comment depth (b ∷ t))
 
@@ -47,17 +48,18 @@ emitted (Some v) = Emit v
 -- the effect of a byte at a place within a string
 unfoldable pub step : Mode → ℕ → Step
 step Raw b =
-    if b == 34 then Close else (if b == 92 then Into Escape else (if is_raw b then Emit b else Bad))
+    if b == code "\"" then Close
+    else (if b == code "\\" then Into Escape else (if is_raw b then Emit b else Bad))
 step Escape b =
     if is_hex b then Into (Byte (digit_value b))
-    else (if b == 117 then Into Brace else emitted (short_escape b))
+    else (if b == code "u" then Into Brace else emitted (short_escape b))
 step (Byte h) b = if is_hex b then Emit (h * 16 + digit_value b) else Bad
-step Brace b = if b == 123 then Into (Digits 0 false) else Bad
+step Brace b = if b == code "{" then Into (Digits 0 false) else Bad
 step (Digits n behind) b =
-    if is_hex b then (if nat_lt (n * 16 + digit_value b) 1114112 then Into
+    if is_hex b then (if nat_lt (n * 16 + digit_value b) 0x110000 then Into
     (Digits (n * 16 + digit_value b) true) else Bad)
-    else (if behind && (b == 95) then Into (Digits n false)
-    else (if behind && ((b == 125) && scalar n) then Encode n else Bad))
+    else (if behind && (b == code "_") then Into (Digits n false)
+    else (if behind && ((b == code "}") && scalar n) then Encode n else Bad))
 
 abbrev pub with_front : List ℕ → Option (List ℕ × List ℕ) → Option (List ℕ × List ℕ)
 with_front v found = option_map (λ r. (v ++ r.0, r.1)) found
@@ -95,7 +97,7 @@ run_step (Encode n) q go = go (Within Raw q)
 unfoldable pub behind_run : RunPlace → List ℕ → RunEnd
 behind_run Between [] = Ends []
 behind_run Between (b ∷ t) =
-    if b == 34 then behind_run (Within Raw (b ∷ t)) t
+    if b == code "\"" then behind_run (Within Raw (b ∷ t)) t
     else (if is_idchar b then behind_run Between t else Ends (b ∷ t))
 behind_run (Within mode q) [] = Stuck q
 behind_run (Within mode q) (b ∷ t) = run_step (step mode b) q (λ next. behind_run next t)
@@ -133,7 +135,7 @@ whole (Some (c, _ ∷ _)) = None
 
 unfoldable pub string_of : List ℕ → Option (List ℕ)
 string_of [] = None
-string_of (b ∷ t) = if b == 34 then whole (string_at Raw t) else None
+string_of (b ∷ t) = if b == code "\"" then whole (string_at Raw t) else None
 
 -- the name that a string after `$` or `@` spells, if it is UTF-8 and not empty
 abbrev pub text_name : Option (List ℕ) → Option (List ℕ)
@@ -153,10 +155,10 @@ or_reserved make x (Some n) = make n
 unfoldable pub class : Bool → List ℕ → Token
 class behind [] = Reserved []
 class behind (b ∷ t) =
-    if b == 34 then or_reserved String (b ∷ t) (string_of (b ∷ t))
-    else (if b == 36 then or_reserved Id (b ∷ t) (name_behind t)
-    else (if behind && (b == 64) then or_reserved Annotation (b ∷ t) (name_behind t)
-    else (if all_idchars (b ∷ t) && between 97 122 b then Keyword (b ∷ t)
+    if b == code "\"" then or_reserved String (b ∷ t) (string_of (b ∷ t))
+    else (if b == code "$" then or_reserved Id (b ∷ t) (name_behind t)
+    else (if behind && (b == code "@") then or_reserved Annotation (b ∷ t) (name_behind t)
+    else (if all_idchars (b ∷ t) && between (code "a") (code "z") b then Keyword (b ∷ t)
     else (if all_idchars (b ∷ t) && is_integer (b ∷ t) then Integer (b ∷ t)
     else Reserved (b ∷ t)))))
 
@@ -185,11 +187,12 @@ unfoldable pub front : Bool → List ℕ → Beginning
 front behind [] = Nothing
 front behind (b ∷ t) =
     if is_space b then BlankTo t
-    else (if b == 40 then (if begins 59 t then comment_front (b ∷ t) (behind_comment 0 (tail t))
+    else (if b == code "("
+    then (if begins (code ";") t then comment_front (b ∷ t) (behind_comment 0 (tail t))
     else TokenTo LParen t)
-    else (if b == 41 then TokenTo RParen t
-    else (if b == 59 then (if begins 59 t then BlankTo (behind_line (tail t)) else Wrong LexChar
-    (b ∷ t))
+    else (if b == code ")" then TokenTo RParen t
+    else (if b == code ";"
+    then (if begins (code ";") t then BlankTo (behind_line (tail t)) else Wrong LexChar (b ∷ t))
     else run_front behind (b ∷ t) (behind_run Between (b ∷ t)))))
 
 -- the text after a string; `s` is the text after the opening quote
@@ -204,4 +207,4 @@ spelled (escaped.Char c) = encode_utf8 c
 -- the end of a string, if its closing quote is in front
 abbrev pub closing : List ℕ → Option (List ℕ × List ℕ)
 closing [] = None
-closing (b ∷ t) = if b == 34 then Some ([], t) else None
+closing (b ∷ t) = if b == code "\"" then Some ([], t) else None

@@ -4,7 +4,7 @@ ghost use Rattle.std.specs.Prelude.{◌≡◌, ◌+◌, ◌-◌, ◌≤◌, ◌<
 ghost use Rattle.wat_lexer.specs.Cut.{is_raw};
 ghost use Rattle.wat_lexer.specs.Scan.{string_at, spelled, with_front, Raw};
 
-use crate::string::{Escaped, escape, raw_end};
+use crate::string::{Escaped, escape, raw_end, raw_end_behind};
 use bumpalo::Bump;
 use std::alloc::{AllocError, Global};
 
@@ -44,7 +44,7 @@ fn decode(text: &[u8], from: usize, out: &mut Vec<u8>) -> Result<Option<usize>, 
     let mut i = from;
     while let Some((escaped, behind)) = escape(text, i) {
         put_escaped(out, escaped)?;
-        i = raw_end(text, behind);
+        i = raw_end_behind(text, behind);
         if behind < i {
             out.extend_from_slice(&text[behind..i])?;
         }

@@ -1,38 +1,10 @@
 //! Visible tokens. A group is hidden if it begins with an annotation that isn't known.
 
-ghost use Rattle.std.specs.Prelude.{◌≡◌, ◌≤◌, ◌+◌, ◌∷◌, [], length, drop};
-ghost use Rattle.wat_lexer.specs.Sight.{is_standard, begins_hidden_group, hidden_count, visible_tokens};
-ghost use Rattle.wat_lexer.specs.View.{view, entry_tokens, skip_in_front, AreSkips, VisibleFrom, IsNextVisible, most_items};
+ghost use Rattle.std.specs.Prelude.{◌≡◌, ◌≤◌, ◌+◌, length, drop};
+ghost use Rattle.wat_lexer.specs.Sight.{begins_hidden_group, hidden_count, visible_tokens};
+ghost use Rattle.wat_lexer.specs.View.{entry_tokens, skip_in_front, AreSkips, VisibleFrom, IsNextVisible, most_items};
 
-use crate::token::Token;
 use crate::tokens::Tokens;
-
-/// Whether the name is one of the five standard names: `custom`, `producers`, `name`, `dylink.0`,
-/// `metadata.code.branch_hint`.
-fn is_standard(name: &str) -> bool
-    ensures { result ≡ is_standard name.now }
-{
-    name == "custom"
-        || name == "producers"
-        || name == "name"
-        || name == "dylink.0"
-        || name == "metadata.code.branch_hint"
-}
-
-/// Whether the two tokens begin a hidden group: a `(` and an annotation that isn't known.
-// Few groups begin with an annotation, so this function isn't inlined.
-#[inline(never)]
-fn begins_hidden(first: Token, second: Token, known: bool) -> bool
-    ensures { result ≡ begins_hidden_group known (view first.entry ∷ view second.entry ∷ []) }
-{
-    match first {
-        Token::LParen => match second {
-            Token::Annotation(name) => !(known && is_standard(name)),
-            _ => false,
-        },
-        _ => false,
-    }
-}
 
 /// Whether a hidden group begins at index `at`.
 #[tactic(auto, using(crate::specs::Laws::Hidden::begins_hidden_steps))]
@@ -43,11 +15,7 @@ pub(crate) fn begins_hidden_group(tokens: &Tokens, at: usize, known: bool) -> bo
     ensures small { length tokens.now ≤ most_items }
 {
     let count = tokens.len();
-    if at + 1 < count && tokens.opens(at) && tokens.annotates(at + 1) {
-        begins_hidden(tokens.token(at), tokens.token(at + 1), known)
-    } else {
-        false
-    }
+    at + 1 < count && tokens.opens(at) && tokens.hides(at + 1, known)
 }
 
 /// The skip stored with the token after index `at`, or 0 if no token follows. A skip is the number

@@ -94,9 +94,31 @@ pub fn plain_end(text: &[u8], from: usize) -> usize
     marked_end(&IDCHARS, text, from)
 }
 
+/// As `run_end`, from a quote on.
+// Few runs have a string, so this function isn't inlined.
+#[inline(never)]
+#[tactic(auto, using(crate::proofs::Steps::run_steps))]
+fn strings_end(text: &[u8], from: usize) -> Result<usize, usize>
+    requires place { from < length text.now }
+    requires quote { slice_index text.now from ≡ 34 }
+    ensures within { IfOk result (λ end. (from ≤ end) × (end ≤ length text.now)) }
+    ensures ascii { IfOk result (λ end. slice_index text.now (end - 1) < 128) }
+    ensures value { RunEndIs text.now result (behind_run Between (drop from text.now)) }
+{
+    let mut i = from;
+    while i < text.len() && text[i] == b'"' {
+        match string_end(text, i + 1) {
+            Some(end) => i = plain_end(text, end),
+            None => return Err(i),
+        }
+    }
+    Ok(i)
+}
+
 /// Returns the offset after the longest run of `idchar`s and strings from `from` on. If the run has
 /// an invalid string, `Err` is the offset of its opening quote. Offsets are in bytes (WebAssembly
 /// Core Specification, Text Format, Lexical Format, Tokens).
+#[inline(always)]
 #[tactic(auto, using(crate::proofs::Steps::run_steps))]
 pub fn run_end(text: &[u8], from: usize) -> Result<usize, usize>
     requires { from ≤ length text.now }
@@ -104,19 +126,9 @@ pub fn run_end(text: &[u8], from: usize) -> Result<usize, usize>
     ensures ascii { IfOk result (λ end. from < end → slice_index text.now (end - 1) < 128) }
     ensures value { RunEndIs text.now result (behind_run Between (drop from text.now)) }
 {
-    let mut i = from;
-    while i < text.len() {
-        let b = text[i];
-        if b == b'"' {
-            match string_end(text, i + 1) {
-                Some(end) => i = end,
-                None => return Err(i),
-            }
-        } else if is_idchar(b) {
-            i += 1;
-        } else {
-            return Ok(i);
-        }
+    let end = plain_end(text, from);
+    if end < text.len() && text[end] == b'"' {
+        return strings_end(text, end);
     }
-    Ok(i)
+    Ok(end)
 }

@@ -1,8 +1,9 @@
 //! The side table: tokens that aren't read from the text.
 
-ghost use Rattle.std.specs.Prelude.{◌≡◌, ◌<◌};
+ghost use Rattle.std.specs.Prelude.{◌≡◌, ◌<◌, ◌∷◌, [], true, not};
 ghost use Rattle.std.specs.Str.{IsUtf8};
-ghost use Rattle.wat_lexer.specs.Token.{is_annotation};
+ghost use Rattle.wat_lexer.specs.Sight.{is_standard, begins_hidden_group};
+ghost use Rattle.wat_lexer.specs.Token.{LParen, is_annotation};
 ghost use Rattle.wat_lexer.specs.View.{view, tok_of, text_limit};
 
 use crate::lexeme::{Kind, Lexeme, split};
@@ -35,6 +36,18 @@ impl<'a> Model for SideEntry<'a> {
     } };
 
     ghost invariant = { λ e. IsContent e.lexeme.kind e.content.now };
+}
+
+/// Whether the name is one of the five standard names: `custom`, `producers`, `name`, `dylink.0`,
+/// `metadata.code.branch_hint`.
+fn is_standard(name: &[u8]) -> bool
+    ensures { result ≡ is_standard name.now }
+{
+    name == "custom".as_bytes()
+        || name == "producers".as_bytes()
+        || name == "name".as_bytes()
+        || name == "dylink.0".as_bytes()
+        || name == "metadata.code.branch_hint".as_bytes()
 }
 
 /// Builds a token of a kind from its text or its name.
@@ -95,6 +108,16 @@ impl<'a> SideEntry<'a> {
             Kind::String => Token::String(self.content),
             kind => token_of(kind, text(self.content)),
         }
+    }
+
+    /// Whether the entry of an annotation has a standard name.
+    // Few groups begin with an annotation, so this function isn't inlined.
+    #[inline(never)]
+    pub(crate) fn is_known(&self) -> bool
+        requires { is_annotation self.now.token ≡ true }
+        ensures { begins_hidden_group true (LParen ∷ self.now.token ∷ []) ≡ not result }
+    {
+        is_standard(self.content)
     }
 
     /// The token's offset, in bytes from the start of the text.

@@ -67,6 +67,23 @@ pub(crate) fn raw_end(text: &[u8], from: usize) -> usize
     marked_end(&RAW, text, from)
 }
 
+/// As `raw_end`, for an offset after an escape.
+// Often another escape follows directly.
+#[inline(always)]
+pub(crate) fn raw_end_behind(text: &[u8], from: usize) -> usize
+    requires { from ≤ length text.now }
+    ensures within { (from ≤ result) × (result ≤ length text.now) }
+    ensures same { string_at Raw (drop from text.now) ≡ with_front
+        (slice_range text.now from result) (string_at Raw (drop result text.now)) }
+    ensures stops { result < length text.now → is_raw (slice_index text.now result) ≡ false }
+{
+    if from < text.len() && text[from] == b'\\' {
+        from
+    } else {
+        raw_end(text, from)
+    }
+}
+
 /// The character of a `\u{..}` escape, and the offset after its `}`. `from` is the offset after the
 /// `{`. Returns `None` if the escape is invalid.
 #[tactic(auto, using(crate::proofs::Steps::digits_steps))]
@@ -177,7 +194,7 @@ pub(crate) fn string_end(text: &[u8], from: usize) -> Option<usize>
 {
     let mut i = raw_end(text, from);
     while let Some((_, behind)) = escape(text, i) {
-        i = raw_end(text, behind);
+        i = raw_end_behind(text, behind);
     }
     if i < text.len() && text[i] == b'"' {
         Some(i + 1)

@@ -1,8 +1,9 @@
 //! The tokens of a text.
 
-ghost use Rattle.std.specs.Prelude.{◌≡◌, ◌≤◌, ◌<◌, ◌+◌, true, length, slice_range};
+ghost use Rattle.std.specs.Prelude.{◌≡◌, ◌≤◌, ◌<◌, ◌+◌, ◌∷◌, [], true, length, slice_range};
 ghost use Rattle.std.proofs.Math.ListN.{get_or, set};
-ghost use Rattle.wat_lexer.specs.Token.{is_open, is_close, is_annotation};
+ghost use Rattle.wat_lexer.specs.Sight.{begins_hidden_group};
+ghost use Rattle.wat_lexer.specs.Token.{LParen, is_open, is_close, is_annotation};
 ghost use Rattle.wat_lexer.specs.View.{view, tok_at, lies, entries_of, Readable, Word, AllCanBeRead, AllApart, HasSkips, skipping, no_entry, skip, most_items};
 
 use crate::class::part;
@@ -91,6 +92,20 @@ impl<'a> Tokens<'a> {
         ensures { result ≡ is_annotation ((get_or self.now at no_entry).token) }
     {
         matches!(self.lexemes[at].kind, Kind::Annotation)
+    }
+
+    /// Whether the token at an index is an annotation that isn't known. If `known` is true, the five
+    /// standard annotations are known, otherwise no annotation is known.
+    #[inline(always)]
+    pub(crate) fn hides(&self, at: usize, known: bool) -> bool
+        requires { at < length self.now }
+        ensures { result ≡ begins_hidden_group known (LParen ∷ (get_or self.now at no_entry).token ∷ []) }
+    {
+        let lexeme = self.lexemes[at];
+        match lexeme.kind {
+            Kind::Annotation => !(known && self.side_table[lexeme.number()].is_known()),
+            _ => false,
+        }
     }
 
     /// Returns the token at an index.

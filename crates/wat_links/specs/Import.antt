@@ -9,7 +9,7 @@ use Rattle.wat_links.specs.declared.import.ImportGroup2ItemOf.{ImportGroup2ItemO
 use Rattle.wat_links.specs.declared.import.ImportItemsOf.{ImportItemsOf}
 use Rattle.wat_links.specs.declared.import.ImportItemsOf.TheVariants.{Single, Group1, Group2}
 use Rattle.wat_links.specs.declared.import.ImportsOf.{ImportsOf}
-use Rattle.wat_links.specs.declared.import.InlineImport.{InlineImport}
+use Rattle.wat_links.specs.declared.inline_import.InlineImport.{InlineImport}
 use Rattle.wat_links.specs.ImportItem.{sig_group, typed_item, named_item}
 use Rattle.wat_links.specs.Laws.Import.{typed_item_consumes, named_item_consumes}
 

@@ -13,6 +13,8 @@ pub mod export;
 pub mod field_head;
 mod flags;
 pub mod import;
+mod import_items;
+pub mod inline_import;
 pub mod item;
 pub mod laws;
 pub mod producers;
@@ -25,8 +27,9 @@ pub use export::{Export, ExportKind, ExportType, InlineExport};
 pub use field_head::FieldHead;
 pub use import::{
     ImportGroup1Item, ImportGroup1ItemOf, ImportGroup2Item, ImportGroup2ItemOf, ImportItems,
-    ImportItemsOf, Imports, ImportsOf, InlineImport,
+    ImportItemsOf, Imports, ImportsOf,
 };
+pub use inline_import::InlineImport;
 pub use item::{ItemKind, ItemSig, take_exact_use};
 pub use producers::Producers;
 pub use raw::RawCustomSection;

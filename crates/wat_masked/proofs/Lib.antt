@@ -7,5 +7,6 @@ pub mod Rows
 pub mod Seen
 pub mod Starts
 pub mod Tokens
+pub mod Unchanged
 pub mod MaskedText
 pub mod Writing

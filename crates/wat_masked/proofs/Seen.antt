@@ -98,6 +98,11 @@ unfolding hidden_count hidden_count_at
 first_visible [] h = refl
 first_visible (t ∷ ts) h = by_test {P = begins_hidden_group false (t ∷ ts) ≡ false} (begins_hidden_group false (t ∷ ts)) (λ e. let k = rw e at h in cc) (λ e. e)
 
+-- the first token is the first visible token
+pub visible_front : {ls : List Entry} (x : Entry) (more : List Entry) → ls ≡ x ∷ more → begins_hidden_group false (entry_tokens ls) ≡ false → visible_tokens false (entry_tokens ls) ≡ x.token ∷ visible_tokens false (entry_tokens more)
+unfolding visible_tokens visible
+visible_front x more e h = rw (e, rw e at h) refl
+
 -- whether the next visible token is a literal
 pub literal_next : (ls : List Entry) (ts : List Token) → VisibleFrom false ls ts → begins_literal (entry_tokens ls) ≡ begins_literal ts
 literal_next [] ts h = rw h refl

@@ -4,6 +4,7 @@
 -- decimal digits. A hexadecimal number is `0x` and the same with hex digits and with `p` or `P`,
 -- but its exponent has decimal digits. Single `_` are between digits only.
 use Rattle.std.specs.Prelude.{ℕ, Bool, true, false, List, [], ◌∷◌, take, drop, ◌==◌, ◌&&◌, ◌||◌, nat_lt, if◌then◌else◌, codes}
+use Prim.Native.Char.{code}
 use Rattle.wat_lexer.specs.Prelude.{digit_value, bytes_eq, begins_hex, without_sign}
 use Rattle.wat_masked.specs.declared.float.FloatState.{FloatState}
 use Rattle.wat_masked.specs.declared.float.FloatState.TheVariants as at
@@ -14,7 +15,7 @@ is_digit hex c = if hex then nat_lt (digit_value c) 16 else nat_lt (digit_value 
 
 -- the byte that begins an exponent: `p` or `P` after hexadecimal digits, otherwise `e` or `E`
 abbrev pub is_mark : Bool → ℕ → Bool
-is_mark hex c = if hex then (c == 112) || (c == 80) else (c == 101) || (c == 69)
+is_mark hex c = if hex then (c == code "p") || (c == code "P") else (c == code "e") || (c == code "E")
 
 -- whether digits at the state are hexadecimal; the digits of an exponent are decimal
 abbrev pub is_hex_at : Bool → FloatState → Bool
@@ -38,16 +39,16 @@ behind_digit at.Exponent = at.Exponent
 behind_digit at.ExponentGap = at.Exponent
 behind_digit at.Wrong = at.Wrong
 
--- the state after any other byte: `_` is 95, `.` 46, `+` 43 and `-` 45
+-- the state after any other byte
 abbrev pub behind_other : Bool → FloatState → ℕ → FloatState
 behind_other hex at.Whole c =
-    if c == 95 then at.WholeGap else (if c == 46 then at.Point
+    if c == code "_" then at.WholeGap else (if c == code "." then at.Point
     else (if is_mark hex c then at.Mark else at.Wrong))
 behind_other hex at.Point c = if is_mark hex c then at.Mark else at.Wrong
 behind_other hex at.Fraction c =
-    if c == 95 then at.FractionGap else (if is_mark hex c then at.Mark else at.Wrong)
-behind_other hex at.Mark c = if (c == 43) || (c == 45) then at.Sign else at.Wrong
-behind_other hex at.Exponent c = if c == 95 then at.ExponentGap else at.Wrong
+    if c == code "_" then at.FractionGap else (if is_mark hex c then at.Mark else at.Wrong)
+behind_other hex at.Mark c = if (c == code "+") || (c == code "-") then at.Sign else at.Wrong
+behind_other hex at.Exponent c = if c == code "_" then at.ExponentGap else at.Wrong
 behind_other hex _ c = at.Wrong
 
 -- the state after a byte

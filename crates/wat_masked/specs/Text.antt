@@ -1,5 +1,6 @@
 -- The masked text: the text with some bytes replaced.
-use Rattle.std.specs.Prelude.{◌≡◌, ℕ, ◌+◌, ◌-◌, List, [], ◌∷◌, ◌++◌, length, take, drop, map, replicate}
+use Rattle.std.specs.Prelude.{◌≡◌, ℕ, ◌+◌, ◌-◌, List, [], ◌∷◌, ◌++◌, length, take, drop, map, replicate, codes}
+use Prim.Native.Char.{code}
 use Rattle.wat_lexer.specs.Prelude.{IsCut, Placed, tokens_of}
 use Rattle.wat_masked.specs.Tokens.{changes_of, masked_tokens}
 use Rattle.wat_masked.specs.declared.change.Change.{Change}
@@ -12,12 +13,12 @@ pub record Patch : Type 0 where
 
 -- `0` and spaces, n bytes in all
 abbrev pub zero_bytes : ℕ → List ℕ
-zero_bytes n = 48 ∷ replicate (n - 1) 32
+zero_bytes n = code "0" ∷ replicate (n - 1) (code " ")
 
--- the patch of a token at an offset; an `i` is 105
+-- the patch of a token at an offset
 abbrev pub patch_of : Change → ℕ → List Patch
 patch_of of.Keep at = []
-patch_of of.Word at = record { at = at; bytes = 105 ∷ [] } ∷ []
+patch_of of.Word at = record { at = at; bytes = codes "i" } ∷ []
 patch_of (of.Literal n) at = record { at = at; bytes = zero_bytes n } ∷ []
 
 -- the patches of tokens, by the change of each token

@@ -1,5 +1,6 @@
 -- Masked tokens: integers in place of float literals.
 use Rattle.std.specs.Prelude.{ℕ, Bool, true, false, List, [], ◌∷◌, length, ◌&&◌, ◌||◌, not, codes, if◌then◌else◌, Option, Some, None}
+use Prim.Native.Char.{code}
 use Rattle.wat_lexer.specs.Prelude.{bytes_eq, begins_hidden_group, visible_tokens, shuts, deeper, Token, Keyword, Integer, Reserved, is_open}
 use Rattle.wat_masked.specs.Float.{is_float}
 use Rattle.wat_masked.specs.declared.change.Change.{Change}
@@ -73,7 +74,7 @@ changes_of ts = changes false false None ts
 
 -- the word with an `i` for its first letter
 abbrev pub with_i : Token → Token
-with_i (Keyword (_ ∷ k)) = Keyword (105 ∷ k)
+with_i (Keyword (_ ∷ k)) = Keyword (code "i" ∷ k)
 with_i t = t
 
 abbrev pub changed : Change → Token → Token

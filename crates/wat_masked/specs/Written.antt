@@ -1,5 +1,5 @@
 -- The bytes that are written at a token.
-use Rattle.std.specs.Prelude.{ℕ, ◌+◌, List, [], ◌∷◌, ◌++◌, slice_range}
+use Rattle.std.specs.Prelude.{ℕ, ◌+◌, List, [], ◌++◌, slice_range, codes}
 use Rattle.wat_masked.specs.Text.{zero_bytes}
 use Rattle.wat_masked.specs.declared.change.Change.{Change}
 use Rattle.wat_masked.specs.declared.change.Change.TheVariants as of
@@ -7,7 +7,7 @@ use Rattle.wat_masked.specs.declared.change.Change.TheVariants as of
 -- the bytes that are written at a token, if the text is written up to `done`, and the new `done`
 abbrev pub written : List ℕ → ℕ → ℕ → Change → List ℕ
 written text done at of.Keep = []
-written text done at of.Word = slice_range text done at ++ 105 ∷ []
+written text done at of.Word = slice_range text done at ++ codes "i"
 written text done at (of.Literal n) = slice_range text done at ++ zero_bytes n
 
 abbrev pub written_to : ℕ → ℕ → Change → ℕ

@@ -3,7 +3,8 @@
 //! Format, "Floating-Point").
 //!
 //! [`masked::masked`] returns the masked text. A parser that supports only integers can read
-//! it. Each token has the same offset in both texts.
+//! it. Each token has the same offset in both texts. [`masked::masked_if_changed`] takes the tokens
+//! of the text, and returns a masked text only if it differs from the text.
 #![tactic(auto)]
 
 mod change;

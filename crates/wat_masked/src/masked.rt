@@ -1,8 +1,8 @@
 //! The masked text.
 
-ghost use Rattle.std.specs.Prelude.{string_bytes, ◌≡◌, ◌+◌, ◌++◌, ◌≤◌, ◌<◌, List, IfOk, IfErr, OnOk, true, length, replicate};
+ghost use Rattle.std.specs.Prelude.{string_bytes, ◌≡◌, ◌+◌, ◌++◌, ◌≤◌, ◌<◌, List, IfOk, IfErr, OnOk, MatchOption, is_some, not, true, false, length, replicate};
 ghost use Rattle.wat_lexer.specs.Prelude.{IsCharBoundary, AreSkips};
-ghost use Rattle.wat_masked.specs.Prelude.{FirstFault, IsCut, offset_of, Placed, IfFault, placed, masked_text, IsMasked, is_changed};
+ghost use Rattle.wat_masked.specs.Prelude.{FirstFault, IsCut, offset_of, Placed, IfFault, placed, tokens_of, visible_tokens, has_none, IsMasked, is_changed};
 ghost use Rattle.wat_masked.specs.Written.{written, written_to, size_of};
 
 use crate::change::{Change, change_of, is_changed};
@@ -56,11 +56,20 @@ fn put(
     }
 }
 
-/// Writes the text with the changes of its tokens.
-fn rebuild(alloc: Global, text: &str, tokens: &Tokens) -> Result<String, AllocError>
-    requires found { IsCut text.now (placed tokens.now) }
+/// Returns the [masked](masked) text of a text with these tokens, or None if no token changes: then
+/// the text is its own masked text, and nothing is allocated.
+pub fn masked_if_changed(
+    alloc: Global,
+    text: &str,
+    tokens: &Tokens,
+) -> Result<Option<String>, AllocError>
+    requires cut { IsCut text.now (placed tokens.now) }
     requires skips { AreSkips tokens.now }
-    ensures { IfOk result (λ a. string_bytes a ≡ masked_text text.now (placed tokens.now)) }
+    ensures masked { IfOk result (λ found. MatchOption found (IsMasked text.now text.now)
+        (λ a. IsMasked text.now (string_bytes a))) }
+    // A token changes exactly if a visible float literal directly follows a word that takes floats.
+    ensures changed { IfOk result (λ found. is_some found
+        ≡ not (has_none false (visible_tokens false (tokens_of (placed tokens.now))))) }
 {
     let mut out = String::new(alloc);
     let mut done = 0;
@@ -75,8 +84,11 @@ fn rebuild(alloc: Global, text: &str, tokens: &Tokens) -> Result<String, AllocEr
         row = is_changed(change);
         i = next;
     }
+    if done == 0 {
+        return Ok(None);
+    }
     out.push_str(&text[done..])?;
-    Ok(out)
+    Ok(Some(out))
 }
 
 /// Returns the masked text: a text of the same length, with integers in place of float literals.
@@ -107,6 +119,9 @@ pub fn masked(alloc: Global, text: &str) -> Result<String, Error>
     let arena = Bump::new(alloc);
     match cut(alloc, text, &arena) {
         Err(e) => Err(e),
-        Ok(tokens) => Ok(rebuild(alloc, text, &tokens)?),
+        Ok(tokens) => match masked_if_changed(alloc, text, &tokens)? {
+            Some(changed) => Ok(changed),
+            None => Ok(String::from_str(alloc, text)?),
+        },
     }
 }

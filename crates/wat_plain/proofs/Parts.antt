@@ -30,7 +30,7 @@ shut (Some x) a g = refl
 shut None a g = refl
 
 -- a `)` after what is read
-enclosed : {A B : Type 0} (x : Read A) (g : A → List Token → Read B)
+pub enclosed : {A B : Type 0} (x : Read A) (g : A → List Token → Read B)
     → bind (bind x (λ a u. bind (closed u) (λ _ d. some_of (a, d)))) g
     ≡ bind x (λ a u. bind (closed u) (λ _ d. g a d))
 enclosed (Some x) g = shut (closed x.1) x.0 g

@@ -1,6 +1,7 @@
 pub use Rattle.wat_mnemonics.specs.Word
 pub use Rattle.wat_instr.specs.Instruction
 pub use Rattle.wat_expr.specs.Expression
+pub use Rattle.wat_expr.specs.Folded
 pub use Rattle.wat_expr.specs.Items
 pub use Rattle.wat_expr.specs.Reading
 pub use Rattle.wat_tokens.specs.Error

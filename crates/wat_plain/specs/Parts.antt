@@ -1,6 +1,7 @@
--- The parts of the reader of items, in the order of a program.
-use Rattle.std.specs.Prelude.{ℕ, nat_lt, if◌then◌else◌, List, [], ◌∷◌, Some, None, codes}
-use Rattle.wat_expr.specs.Prelude.{Token, Read, bind, some_of, one_reads, as_lparen, InstructionModel, instruction, Sort, sort, IsBlock, IsIf, IsOther, Items, Plain, Folded, Block, IfThen, IfElse, Hinted, are_groups, begins_branch, closed, opened, more_by}
+-- The parts of the readers of items and of groups, in the order of a program.
+use Rattle.std.specs.Prelude.{ℕ, suc, nat_lt, if◌then◌else◌, List, [], ◌∷◌, length, Some, None, codes}
+use Rattle.wat_expr.specs.Prelude.{Token, Read, bind, some_of, one_reads, as_lparen, InstructionModel, instruction, Sort, sort, IsBlock, IsIf, IsOther, Items, Plain, Folded, Block, IfThen, IfElse, Hinted, Groups, Group, are_groups, begins_branch, closed, opened, more_by}
+use Rattle.wat_expr.specs.Folded.{groups_at}
 use Rattle.wat_tokens.specs.Tests.{as_string, annotation_only}
 
 -- ---- hints
@@ -20,6 +21,10 @@ hint t =
     (λ _ a. bind (one_reads (annotation_only (codes "metadata.code.branch_hint")) a)
     (λ _ b. bind (bit b) (λ v c. bind (closed c) (λ _ d. some_of (v, d)))))
 
+-- what is read, and a `)`
+abbrev pub enclosed_by : {A : Type 0} → (List Token → Read A) → List Token → Read A
+enclosed_by rec t = bind (rec t) (λ a u. bind (closed u) (λ _ d. some_of (a, d)))
+
 module _ (rec : List Token → Read Items) where
   abbrev pub hinted_by : List Token → Read Items
   hinted_by t =
@@ -31,17 +36,13 @@ module _ (rec : List Token → Read Items) where
   abbrev pub plain_by : List Token → Read Items
   plain_by t = bind (instruction.reads t) (λ i m. more_by rec (Plain i) m)
 
-  -- items and `)`
-  abbrev pub enclosed_by : List Token → Read Items
-  enclosed_by t = bind (rec t) (λ ys u. bind (closed u) (λ _ d. some_of (ys, d)))
-
   -- items and `)`, and the items after them
   abbrev pub folded_by : (Items → Items → Items) → List Token → Read Items
-  folded_by f t = bind (enclosed_by t) (λ ys d. more_by rec (f ys) d)
+  folded_by f t = bind (enclosed_by rec t) (λ ys d. more_by rec (f ys) d)
 
   -- an arm of an `if`
   abbrev pub arm_by : List ℕ → List Token → Read Items
-  arm_by w t = bind (opened w t) (λ _ d. enclosed_by d)
+  arm_by w t = bind (opened w t) (λ _ d. enclosed_by rec d)
 
   -- the second arm of an `if` and the `)` of its group
   abbrev pub else_by : List Token → Read Items
@@ -70,3 +71,17 @@ module _ (rec : List Token → Read Items) where
   -- the rest of a group after its `(`
   abbrev pub group_by : List Token → Read Items
   group_by t = bind (instruction.reads t) (λ i b. sort_by (sort i) i b)
+
+-- ---- groups
+
+-- the rest of a group after its `(`, and the groups after the group
+abbrev pub next_group_by : (List Token → Read Groups) → List Token → Read Groups
+next_group_by rec t =
+    bind (instruction.reads t) (λ i b. bind (enclosed_by rec b)
+    (λ gs d. bind (rec d) (λ hs r. some_of (Group i gs hs, r))))
+
+-- the rest of one group after its `(`
+abbrev pub one_group : List Token → Read (InstructionModel × Groups)
+one_group t =
+    bind (instruction.reads t) (λ i b. bind (enclosed_by (groups_at (suc (length b))) b)
+    (λ gs r. some_of ((i, gs), r)))

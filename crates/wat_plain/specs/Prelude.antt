@@ -2,3 +2,4 @@
 -- Declares nothing.
 pub use Rattle.wat_expr.specs.Prelude.{Items, Read}
 unfoldable pub use Rattle.wat_expr.specs.Prelude.{items_at}
+unfoldable pub use Rattle.wat_expr.specs.Folded.{groups_at}

@@ -1,7 +1,7 @@
-//! What the readers of items return. The types are `Copy` and not generic: a proof then compares no
-//! types of instructions.
+//! What the readers of items and groups return. The types are `Copy` and not generic: a proof then
+//! compares no types of instructions.
 
-use crate::tree::Items;
+use crate::tree::{Groups, Items};
 use wat_instr::Instruction;
 
 /// The result of a reader of items.
@@ -10,6 +10,17 @@ pub enum Found<'a> {
     /// The items.
     Items(&'a Items<'a>),
     /// The next tokens aren't such items.
+    Nothing,
+    /// Out of memory.
+    NoMemory,
+}
+
+/// The result of a reader of groups.
+#[derive(Clone, Copy)]
+pub enum FoundGroups<'a> {
+    /// The groups.
+    Groups(&'a Groups<'a>),
+    /// The next tokens aren't such groups.
     Nothing,
     /// Out of memory.
     NoMemory,

@@ -1,8 +1,9 @@
-//! The definitions of mnemonics, of how items are read and of what items unfold to as plain
-//! programs. They are slow and recursive, and only tests use them.
+//! The definitions of mnemonics, of how items and groups are read and of what they unfold to as
+//! plain programs. They are slow and recursive, and only tests use them.
 #![tactic(auto)]
 
 pub mod find;
+pub mod folded;
 mod found;
 pub mod hinting;
 mod keep;
@@ -12,7 +13,8 @@ pub mod tree;
 pub mod unfolding;
 
 pub use find::find_by_list;
+pub use folded::read_folded;
 pub use hinting::hints;
 pub use reading::read_items;
-pub use tree::Items;
-pub use unfolding::unfold;
+pub use tree::{FoldedGroup, Groups, Items};
+pub use unfolding::{unfold, unfold_folded};

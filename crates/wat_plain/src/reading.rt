@@ -2,7 +2,6 @@
 
 ghost use Rattle.std.specs.Prelude.{◌≡◌, ◌≢◌, suc, length, None, Some, IfOk, MatchResult};
 ghost use Rattle.wat_expr.specs.Prelude.{value_of, Folded, Block, items_by, items_at, expression_reads, instruction_view, Memory};
-ghost use Rattle.wat_plain.specs.Appends.{OrMemory};
 ghost use Rattle.wat_plain.specs.Found.{Finds};
 ghost use Rattle.wat_plain.specs.Parts.{plain_by, hinted_by, group_by, folded_by, enclosed_by, arm_by, else_by, if_by, other_by};
 ghost use Rattle.wat_plain.specs.Seen.{seen};
@@ -10,13 +9,13 @@ ghost use Rattle.wat_plain.specs.Seen.{seen};
 use crate::found::{Found, FoundInstruction};
 use crate::hinting::later;
 use crate::taking::{
-    Sort, are_groups, begins_branch, keep_items, sort_of, take_close, take_hint, take_instruction,
-    take_open, take_opened,
+    Sort, are_groups, begins_branch, keep_items, no_memory, sort_of, take_close, take_hint,
+    take_instruction, take_open, take_opened, tokens_left,
 };
 use crate::tree::Items;
 use bumpalo::Bump;
 use wat_instr::Instruction;
-use wat_tokens::{Error, Fault, Parser, Result, Span};
+use wat_tokens::{Parser, Result};
 
 /// Reads items. `most` is the depth of the recursion, which ends at 0 with Nothing.
 #[cycle(reading)]
@@ -246,19 +245,6 @@ fn read_else<'a>(most: usize, parser: &mut Parser<'a>, arena: &'a Bump) -> Found
     }
 }
 
-/// Returns the number of tokens left, or Memory if it is beyond `usize`.
-fn tokens_left(parser: &Parser<'_>) -> Result<usize>
-    ensures { OrMemory result (λ n. n ≡ length parser.now.left) }
-{
-    let mut count = 0;
-    let mut cursor = parser.cursor();
-    'tokens: while let Some(rest) = cursor.any() {
-        count = later(count, 1)?;
-        cursor = rest;
-    }
-    Ok(count)
-}
-
 /// Parses items up to the end of the group or of the text, as the definition reads an expression.
 ///
 /// The items and what they refer to are in the arena. The error is Memory, or Unexpected if the
@@ -279,6 +265,6 @@ pub fn read_items<'a>(parser: &mut Parser<'a>, arena: &'a Bump) -> Result<&'a It
             Ok(xs)
         }
         Found::Nothing => Err(parser.unexpected()),
-        Found::NoMemory => Err(Error::at(Fault::Memory, Span::from_offset(0))),
+        Found::NoMemory => Err(no_memory()),
     }
 }

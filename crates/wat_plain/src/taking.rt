@@ -1,17 +1,19 @@
-//! Readers of single tokens, of a hint and of an instruction, and tests of items.
+//! Readers of single tokens, of a hint and of an instruction, tests of items, and errors.
 
-ghost use Rattle.std.specs.Prelude.{◌≡◌, List, drop, if◌then◌else◌, None, Some, MatchBool, MatchOption};
-ghost use Rattle.wat_expr.specs.Prelude.{sort, are_groups, begins_branch, closed, opened, instruction, instruction_view, some_of, begins_lparen, Token};
-ghost use Rattle.wat_plain.specs.Found.{Finds, FindsInstruction};
+ghost use Rattle.std.specs.Prelude.{◌≡◌, List, length, drop, if◌then◌else◌, None, Some, MatchBool, MatchOption};
+ghost use Rattle.wat_expr.specs.Prelude.{sort, are_groups, begins_branch, closed, opened, instruction, instruction_view, some_of, begins_lparen, Memory, Token};
+ghost use Rattle.wat_plain.specs.Appends.{OrMemory};
+ghost use Rattle.wat_plain.specs.Found.{Finds, FindsGroups, FindsInstruction};
 ghost use Rattle.wat_plain.specs.Parts.{bit, hint};
-ghost use Rattle.wat_plain.specs.Seen.{seen, sort_seen};
+ghost use Rattle.wat_plain.specs.Seen.{seen, seen_groups, sort_seen};
 
-use crate::found::{Found, FoundInstruction};
+use crate::found::{Found, FoundGroups, FoundInstruction};
+use crate::hinting::later;
 use crate::keep::keep;
-use crate::tree::Items;
+use crate::tree::{Groups, Items};
 use bumpalo::Bump;
 use wat_instr::{Instruction, is_block};
-use wat_tokens::{Fault, Parser};
+use wat_tokens::{Error, Fault, Parser, Result, Span};
 
 /// Takes a `(` if it is the next token, and returns whether it was.
 pub fn take_open(parser: &mut Parser<'_>) -> bool
@@ -90,6 +92,16 @@ pub fn keep_items<'a>(arena: &'a Bump, items: Items<'a>) -> Found<'a>
     }
 }
 
+/// Puts groups into the arena.
+pub fn keep_groups<'a>(arena: &'a Bump, groups: Groups<'a>) -> FoundGroups<'a>
+    ensures { (left : List Token) → FindsGroups result (some_of (seen_groups groups.entry, left)) left }
+{
+    match keep(arena, groups) {
+        Ok(kept) => FoundGroups::Groups(kept),
+        Err(_) => FoundGroups::NoMemory,
+    }
+}
+
 /// What a group holds after its instruction.
 #[derive(Clone, Copy)]
 pub enum Sort {
@@ -138,4 +150,24 @@ pub fn begins_branch(items: &Items<'_>) -> bool
         Items::IfElse(_, _, _, _, _) => true,
         _ => false,
     }
+}
+
+/// Returns the number of tokens left, or Memory if it is beyond `usize`.
+pub fn tokens_left(parser: &Parser<'_>) -> Result<usize>
+    ensures { OrMemory result (λ n. n ≡ length parser.now.left) }
+{
+    let mut count = 0;
+    let mut cursor = parser.cursor();
+    'tokens: while let Some(rest) = cursor.any() {
+        count = later(count, 1)?;
+        cursor = rest;
+    }
+    Ok(count)
+}
+
+/// Returns the error Memory.
+pub fn no_memory() -> Error
+    ensures { result.fault ≡ Memory }
+{
+    Error::at(Fault::Memory, Span::from_offset(0))
 }

@@ -1,4 +1,4 @@
-//! Items as a tree.
+//! Items and groups as trees.
 
 use wat_instr::Instruction;
 
@@ -20,4 +20,22 @@ pub enum Items<'a> {
     IfElse(&'a Instruction<'a>, &'a Items<'a>, &'a Items<'a>, &'a Items<'a>, &'a Items<'a>),
     /// The value of a branch hint.
     Hinted(u32, &'a Items<'a>),
+}
+
+/// A list of groups. Each group is one folded instruction of any kind.
+#[derive(Clone, Copy)]
+pub enum Groups<'a> {
+    /// The end of the list.
+    Nil,
+    /// The instruction of the first group, the groups in that group, and the groups after it.
+    Group(&'a Instruction<'a>, &'a Groups<'a>, &'a Groups<'a>),
+}
+
+/// One folded instruction of any kind.
+#[derive(Clone, Copy)]
+pub struct FoldedGroup<'a> {
+    /// The instruction.
+    pub instr: &'a Instruction<'a>,
+    /// The groups after the instruction.
+    pub groups: &'a Groups<'a>,
 }

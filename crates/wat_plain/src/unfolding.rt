@@ -1,12 +1,12 @@
-//! The instructions of items as one flat list.
+//! The instructions of items or groups as one flat list.
 
 ghost use Rattle.std.specs.Prelude.{◌≡◌, ◌∷◌, ◌++◌, [], map, length};
-ghost use Rattle.wat_expr.specs.Prelude.{unfolded, instruction_view};
+ghost use Rattle.wat_expr.specs.Prelude.{unfolded, unfolded_groups, folded_value, instruction_view};
 ghost use Rattle.wat_plain.specs.Appends.{OrMemory, Appends};
-ghost use Rattle.wat_plain.specs.Seen.{seen, instr_at, label};
+ghost use Rattle.wat_plain.specs.Seen.{seen, seen_groups, instr_at, label};
 
 use crate::keep::keep;
-use crate::tree::Items;
+use crate::tree::{FoldedGroup, Groups, Items};
 use bumpalo::Bump;
 use std::alloc::Global;
 use wat_instr::{Instruction, LabelOp};
@@ -106,4 +106,31 @@ pub fn how_many<'a>(alloc: Global, arena: &'a Bump, items: &'a Items<'a>) -> Res
 {
     let all = unfold(alloc, arena, items)?;
     Ok(all.len())
+}
+
+/// Appends the instructions of groups, each after the instructions of the groups in its group.
+fn unfold_groups<'a>(out: &mut Vec<&'a Instruction<'a>>, groups: &'a Groups<'a>) -> Result<()>
+    ensures { Appends instr_at result out.old.items out.new.items
+        (unfolded_groups (seen_groups groups.now)) }
+{
+    match *groups {
+        Groups::Nil => Ok(()),
+        Groups::Group(i, gs, hs) => {
+            unfold_groups(out, gs)?;
+            put(out, i)?;
+            unfold_groups(out, hs)
+        }
+    }
+}
+
+/// Returns the instructions of a folded instruction in the order of a flat list. The only error is
+/// Memory.
+pub fn unfold_folded<'a>(alloc: Global, folded: FoldedGroup<'a>) -> Result<Vec<&'a Instruction<'a>>>
+    ensures { OrMemory result (λ v. map instr_at v.items
+        ≡ (folded_value (instr_at folded.entry.instr) (seen_groups folded.entry.groups.now)).instrs) }
+{
+    let mut out = Vec::new(alloc);
+    unfold_groups(&mut out, folded.groups)?;
+    put(&mut out, folded.instr)?;
+    Ok(out)
 }

@@ -1,22 +1,42 @@
-//! Compares the parser with the plain programs of `wat_plain`: each mnemonic is looked up, and the
-//! text of each row of an instruction or an expression is parsed and read. Rows are lines
-//! `KIND | TEXT` of standard input, as `wat_golden` reads them; a row whose kind is followed by
+//! Compares the parser with the plain programs of `wat_plain`, for words and for texts.
+//!
+//! **Words.** `find` and `find_by_list` look up each mnemonic, three words that are one letter off
+//! it, and some other words.
+//!
+//! **Texts.** Rows are lines `KIND | TEXT` of standard input, as `wat_golden` reads them. The text of
+//! an instruction or an expression is parsed as an expression, and read by `read_items`. The text of
+//! a folded instruction is parsed as `FoldedInstruction`, and read by `read_folded`. Instructions,
+//! hints and refusals are compared; spans, faults and offsets aren't. A row whose kind is followed by
 //! `times` is left out.
 //!
-//! It prints each row for which the two differ after a `?`, and last how many mnemonics were found,
-//! how many texts both accept and how many texts both refuse.
+//! The plain programs take from the parser:
+//!
+//! - the words of the instructions: the table `OPS`;
+//! - tokens: the lexer cuts the text, and a `Parser` hides groups of unknown annotations, takes
+//!   single tokens and looks at the next ones;
+//! - instructions with their operands: `Instruction::parse` reads each, and `is_block`, `is_if` and
+//!   `is_br_if` return its kind.
+//!
+//! They do by themselves: search the table entry by entry; read items, groups, arms and hints, each
+//! by a recursive call; refuse what isn't such a list; put instructions into flat order with `else`
+//! and `end`; count the index of each hint. Instructions are compared by the texts that the printer
+//! returns. So a mistake of the lexer, of `Parser`, of `Instruction::parse` or of the printer isn't
+//! found here.
+//!
+//! The program prints each word and each row for which the two differ after a `?`. Last it prints how
+//! many words both find, how many neither finds, how many texts both accept and how many both refuse.
 #![tactic(auto)]
 
 mod texts;
+mod words;
 
-use crate::texts::{Outcome, Text};
+use crate::texts::{Kind, Outcome, Text};
+use crate::words::compared;
 use bumpalo::Bump;
 use std::alloc::Global;
 use std::io;
 use std::process::ExitCode;
-use wat_mnemonics::table::OPS;
-use wat_plain::find_by_list;
-use wat_tokens::Result;
+use wat_tokens::{Parser, Result};
 
 /// The numbers of texts that were compared.
 #[derive(Clone, Copy)]
@@ -27,15 +47,13 @@ struct Totals {
     refused: usize,
 }
 
-/// Returns how many instructions are found by their mnemonics.
-fn found() -> usize {
-    let mut count: usize = 0;
-    for op in &OPS {
-        if find_by_list(op.word()) == Some(*op) {
-            count = count.wrapping_add(1);
-        }
+/// Returns what a text of this kind is read as, or None if such texts aren't compared.
+fn kind_of(kind: &str) -> Option<Kind> {
+    match kind {
+        "instruction" | "expression" | "regrouped" => Some(Kind::Expression),
+        "folded" => Some(Kind::Folded),
+        _ => None,
     }
-    count
 }
 
 /// Returns the text with line feeds and carriage returns in place of their signs.
@@ -58,14 +76,17 @@ fn add_line(out: &mut String, totals: &mut Totals, line: &str) -> Result<()> {
         return Ok(());
     };
     let (kind, words) = kind.split_once(' ').unwrap_or((kind, ""));
-    let compares = matches!(kind, "instruction" | "expression" | "folded" | "regrouped");
-    if !compares || words == "times" {
+    if words == "times" {
         return Ok(());
     }
+    let Some(kind) = kind_of(kind) else {
+        return Ok(());
+    };
     let alloc = *out.allocator();
     let arena = Bump::new(alloc);
     let text = Text {
         text: characters(alloc, text, &arena)?,
+        kind,
         known: words != "plain",
         arena: &arena,
         alloc,
@@ -88,8 +109,14 @@ fn answers(alloc: Global, lines: &str) -> Result<String> {
     for line in lines.lines() {
         add_line(&mut out, &mut totals, line)?;
     }
-    let (words, accepted, refused) = (found(), totals.accepted, totals.refused);
-    write!(out, "{words} mnemonics found\n")?;
+    let arena = Bump::new(alloc);
+    let words = compared(&mut out, &mut Parser::new(alloc, "", &arena)?)?;
+    let (found, missing) = (words.found, words.missing);
+    let (accepted, refused) = (totals.accepted, totals.refused);
+    write!(
+        out,
+        "{found} words found by both\n{missing} words found by neither\n"
+    )?;
     write!(
         out,
         "{accepted} texts accepted by both\n{refused} texts refused by both\n"

@@ -2,9 +2,9 @@
 
 use bumpalo::Bump;
 use std::alloc::Global;
-use wat_expr::{BranchHint, Expression};
+use wat_expr::{BranchHint, Expression, FoldedInstruction};
 use wat_instr::Instruction;
-use wat_plain::{hints, read_items, unfold};
+use wat_plain::{hints, read_folded, read_items, unfold, unfold_folded};
 use wat_print::{Layout, print};
 use wat_print_instr::Code;
 use wat_tokens::{Error, Fault, Parse, Parser, Result};
@@ -20,11 +20,22 @@ pub enum Outcome {
     Different,
 }
 
+/// What a text is read as.
+#[derive(Clone, Copy)]
+pub enum Kind {
+    /// An expression.
+    Expression,
+    /// One folded instruction of any kind.
+    Folded,
+}
+
 /// A text, and how it is read.
 #[derive(Clone, Copy)]
 pub struct Text<'a> {
     /// The text.
     pub text: &'a str,
+    /// What the text is read as.
+    pub kind: Kind,
     /// Whether the standard annotations are known.
     pub known: bool,
     /// Where the items are kept.
@@ -60,11 +71,22 @@ impl<'a> Text<'a> {
         Ok(parser)
     }
 
-    /// Returns the instructions and the hints of the expression that the whole text is.
+    /// Returns the expression that the next tokens are.
+    fn expression(&self, parser: &mut Parser<'a>) -> Result<Expression<'a>> {
+        match self.kind {
+            Kind::Expression => Expression::parse(parser),
+            Kind::Folded => match FoldedInstruction::parse(parser) {
+                Ok(folded) => Ok(folded.0),
+                Err(error) => Err(error),
+            },
+        }
+    }
+
+    /// Returns the instructions and the hints that the parser reads from the whole text.
     fn parsed(&self) -> Result<String> {
         let mut out = String::new(self.alloc);
         let mut parser = self.parser()?;
-        match Expression::parse(&mut parser) {
+        match self.expression(&mut parser) {
             Ok(expression) => {
                 for instr in &expression.instrs {
                     add_instruction(&mut out, instr)?;
@@ -79,18 +101,39 @@ impl<'a> Text<'a> {
         Err(parser.unexpected())
     }
 
-    /// Returns the instructions and the hints of the items that the whole text is.
+    /// Adds the instructions and the hints of the items that the next tokens are.
+    fn add_items(&self, out: &mut String, parser: &mut Parser<'a>) -> Result<()> {
+        match read_items(parser, self.arena) {
+            Ok(items) => {
+                for instr in unfold(self.alloc, self.arena, items)? {
+                    add_instruction(out, instr)?;
+                }
+                add_hints(out, &hints(self.alloc, self.arena, items)?)
+            }
+            Err(error) => Err(error),
+        }
+    }
+
+    /// Adds the instructions of the folded instruction that the next tokens are.
+    fn add_folded(&self, out: &mut String, parser: &mut Parser<'a>) -> Result<()> {
+        match read_folded(parser, self.arena) {
+            Ok(folded) => {
+                for instr in unfold_folded(self.alloc, folded)? {
+                    add_instruction(out, instr)?;
+                }
+                Ok(())
+            }
+            Err(error) => Err(error),
+        }
+    }
+
+    /// Returns the instructions and the hints that the plain reader reads from the whole text.
     fn read(&self) -> Result<String> {
         let mut out = String::new(self.alloc);
         let mut parser = self.parser()?;
-        match read_items(&mut parser, self.arena) {
-            Ok(items) => {
-                for instr in unfold(self.alloc, self.arena, items)? {
-                    add_instruction(&mut out, instr)?;
-                }
-                add_hints(&mut out, &hints(self.alloc, self.arena, items)?)?;
-            }
-            Err(error) => return Err(error),
+        match self.kind {
+            Kind::Expression => self.add_items(&mut out, &mut parser)?,
+            Kind::Folded => self.add_folded(&mut out, &mut parser)?,
         }
         if parser.at_end() {
             return Ok(out);

@@ -6,13 +6,13 @@ use Rattle.wat_show.specs.Types.{function_text}
 use Rattle.wat_show.specs.Modules.{module_text}
 use Rattle.wat_show.specs.Shown.{ShowsText, ShowsBytes}
 use Rattle.wat_show.specs.declared.mode.Mode.{Mode}
-use Rattle.wat_show.specs.declared.mode.Mode.TheVariants.{FuncType, ExpressionModel, Folded, «Module»}
+use Rattle.wat_show.specs.declared.mode.Mode.TheVariants.{FuncType, Expr, Folded, «Module»}
 
 -- the mode that a word names
 abbrev pub mode_of : List ℕ → Option Mode
 mode_of word =
     if bytes_eq word (codes "functype") then Some FuncType
-    else if bytes_eq word (codes "expr") then Some ExpressionModel
+    else if bytes_eq word (codes "expr") then Some Expr
     else if bytes_eq word (codes "folded") then Some Folded
     else if bytes_eq word (codes "module") then Some «Module»
     else None
@@ -21,7 +21,7 @@ mode_of word =
 abbrev pub ShownText : Mode → List ℕ → List ℕ → ℕ → Type 0
 ShownText FuncType text out status =
     ShowsText (TextSpells false function_type) function_text text out status
-ShownText ExpressionModel text out status =
+ShownText Expr text out status =
     ShowsText (TextSpells false expression) expression_text text out status
 ShownText Folded text out status =
     ShowsText (TextSpells false folded_instruction) expression_text text out status

@@ -24,7 +24,7 @@ pub enum Mode {
     /// A function type.
     FuncType,
     /// An expression.
-    ExpressionModel,
+    Expr,
     /// One folded instruction of any kind.
     Folded,
     /// A module in parentheses.
@@ -39,7 +39,7 @@ impl Mode {
     {
         match word {
             "functype" => Some(Mode::FuncType),
-            "expr" => Some(Mode::ExpressionModel),
+            "expr" => Some(Mode::Expr),
             "folded" => Some(Mode::Folded),
             "module" => Some(Mode::Module),
             _ => None,
@@ -73,7 +73,7 @@ fn show_in(mode: Mode, alloc: Global, text: &str) -> Result<(Vec<u8>, u8), Alloc
     let arena = Bump::new(alloc);
     match mode {
         Mode::FuncType => show_value::<FunctionType>(alloc, text, &arena),
-        Mode::ExpressionModel => show_value::<Expression>(alloc, text, &arena),
+        Mode::Expr => show_value::<Expression>(alloc, text, &arena),
         Mode::Folded => show_value::<FoldedInstruction>(alloc, text, &arena),
         Mode::Module => show_value::<Module>(alloc, text, &arena),
     }

@@ -1,15 +1,17 @@
 -- How a call changes the counts of a parser.
 use Rattle.std.specs.Prelude.{◌≡◌, ℕ, ◌+◌, ◌≤◌, List, ◌++◌, length, max, Result, Ok, Err}
-use Rattle.wat_lexer.specs.Token.{Token, tokens_of}
+use Rattle.wat_lexer.specs.Token.{Token}
 use Rattle.wat_tokens.specs.Parens.{nest}
-use Rattle.wat_tokens.specs.State.{State, behind}
+use Rattle.wat_tokens.specs.State.{State}
+use Rattle.wat_tokens.specs.Visible.{placed_behind}
 
 -- no count but `taken` fell
 abbrev pub Grows : State → State → Type 0
 Grows a b = (a.turns ≤ b.turns) × (a.probes ≤ b.probes) × (a.peak ≤ b.peak) × (a.held ≤ b.held)
 
--- From a to b the tokens `front` were taken, and the position is directly after them. No count
--- fell, `peak` rose at most to the nesting of `front`, and `known` did not change.
+-- From a to b the tokens `front` were taken, and the position is directly after them: the tokens
+-- that are left have the same offsets as before. No count fell, `peak` rose at most to the nesting
+-- of `front`, and `known` did not change.
 pub record CountsBy (a : State) (b : State) : Type 0 where
   pub front : List Token
   pub left : a.left ≡ front ++ b.left
@@ -17,7 +19,7 @@ pub record CountsBy (a : State) (b : State) : Type 0 where
   pub more : Grows a b
   pub peak : b.peak ≤ max a.peak (nest front)
   pub known : b.known ≡ a.known
-  pub position : tokens_of b.rest ≡ behind a.known (length front) (tokens_of a.rest)
+  pub position : b.rest ≡ placed_behind a.known (length front) a.rest
 
 unfoldable pub Counts : State → State → Type 0
 Counts a b = CountsBy a b

@@ -15,11 +15,11 @@ pub data Kind : Type 0 where
   an_integer : Kind
   a_string : Kind
   a_word : List ℕ → Kind
-  -- a keyword for which the test holds
-  word_where : (List ℕ → Bool) → Kind
   -- a keyword that begins with the text
   word_from : List ℕ → Kind
   an_annotation : List ℕ → Kind
+  -- no parenthesis, and the test of the token holds
+  content_where : (Token → Bool) → Kind
 
 -- the token is of the kind
 abbrev pub fits : Kind → Token → Bool
@@ -29,9 +29,11 @@ fits an_id (Id n) = true
 fits an_integer (Integer text) = true
 fits a_string (String s) = true
 fits (a_word w) (Keyword k) = bytes_eq k w
-fits (word_where f) (Keyword k) = f k
 fits (word_from front) (Keyword k) = is_some (past_front front k)
 fits (an_annotation n) (Annotation a) = bytes_eq a n
+fits (content_where f) LParen = false
+fits (content_where f) RParen = false
+fits (content_where f) x = f x
 fits _ _ = false
 
 -- the next token is of the kind

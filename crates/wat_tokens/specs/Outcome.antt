@@ -1,13 +1,14 @@
 -- The result of a parse and the tokens that it takes, by the next tokens.
 use Rattle.std.specs.Prelude.{◌≡◌, ◌≢◌, ◌≤◌, ◌+◌, ◌++◌, List, length, max, Result, IfOk, IfErr}
-use Rattle.wat_lexer.specs.Token.{Token, tokens_of}
+use Rattle.wat_lexer.specs.Token.{Token}
 use Rattle.wat_tokens.specs.Counts.{Grows}
 use Rattle.wat_tokens.specs.Error.{Error, Memory}
 use Rattle.wat_tokens.specs.Parens.{nest}
 use Rattle.wat_tokens.specs.Parses.{Accepts}
 use Rattle.wat_tokens.specs.Production.{Production, Front}
-use Rattle.wat_tokens.specs.State.{State, behind}
+use Rattle.wat_tokens.specs.State.{State}
 use Rattle.wat_tokens.specs.Views.{ViewOf}
+use Rattle.wat_tokens.specs.Visible.{placed_behind}
 
 -- A call from a to b returned r: it reads exactly the value that a prefix of a.left spells.
 -- sound: the tokens that were taken spell the value
@@ -23,7 +24,8 @@ pub record ReadsPrefix {X A : Type 0} (view : ViewOf X A) (g : Production A) (r 
 
 -- From a to b a prefix c of a.left was taken, also on an error.
 -- end: b.left is a suffix of a.left
--- position: the parser is directly after the last token that was taken
+-- position: the parser is directly after the last token that was taken, and the tokens that are
+-- left have the same offsets as before
 -- taken: `taken` rose by the number of tokens that were taken
 -- within: the number of tokens taken and left together did not change
 -- peak: `peak` is at most its old value, or the nesting of c
@@ -31,7 +33,7 @@ pub record ReadsPrefix {X A : Type 0} (view : ViewOf X A) (g : Production A) (r 
 pub record TakesPrefix (a b : State) : Type 0 where
   pub end : (c : List Token) × (a.left ≡ c ++ b.left)
   pub position : (c : List Token) → a.left ≡ c ++ b.left
-      → tokens_of b.rest ≡ behind a.known (length c) (tokens_of a.rest)
+      → b.rest ≡ placed_behind a.known (length c) a.rest
   pub taken : (c : List Token) → a.left ≡ c ++ b.left → b.taken ≡ a.taken + length c
   pub within : b.taken + length b.left ≡ a.taken + length a.left
   pub peak : (c : List Token) → a.left ≡ c ++ b.left → b.peak ≤ max a.peak (nest c)

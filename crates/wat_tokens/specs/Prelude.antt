@@ -34,11 +34,10 @@ pub use Rattle.wat_tokens.specs.Restated.{restated}
 pub use Rattle.wat_tokens.specs.Settled.{settled}
 pub use Rattle.wat_tokens.specs.Spelled.{Spelled}
 pub use Rattle.wat_tokens.specs.State.{State, annotated}
-unfoldable pub use Rattle.wat_tokens.specs.State.{behind}
 pub use Rattle.wat_tokens.specs.Strings.{string, text}
 pub use Rattle.wat_tokens.specs.Test.{Question, Test, after, always, answer, at_group, at_id, at_integer, at_listed, at_more, at_word, both, denies_end, either, either_test, opposite, run, second_word, sight, starts}
 pub use Rattle.wat_tokens.specs.Tests.{begins_word, ends, look_up, more, second, word_in}
 pub use Rattle.wat_tokens.specs.Views.{ViewOf, heapless_option, holding, no_items, option_view, owning, plain}
 pub use Rattle.wat_tokens.specs.Visible.{IsPlaceOf, behind_one, rest_by, seen, shown}
-unfoldable pub use Rattle.wat_tokens.specs.Visible.{closing}
+unfoldable pub use Rattle.wat_tokens.specs.Visible.{closing, placed_behind}
 pub use Rattle.wat_tokens.specs.Whole.{TextSpells}

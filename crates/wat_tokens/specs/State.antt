@@ -38,7 +38,7 @@ begun ts = record {
 abbrev pub IsFresh : List ℕ → State → Type 0
 IsFresh text p = (ts : List Placed) × IsCut text ts × (p ≡ begun ts)
 
--- the tokens directly after the first n visible tokens
+-- the tokens directly after the first n visible tokens, without offsets
 unfoldable pub behind : Bool → ℕ → List Token → List Token
 behind known zero t = t
 behind known (suc n) t = behind known n (drop (hidden_count known t + 1) t)

@@ -1,8 +1,8 @@
 -- Tests of the next tokens, as data: what they ask, and how many tokens they look at.
 use Rattle.std.specs.Prelude.{◌≡◌, ℕ, ◌+◌, max, Bool, true, false, not, ◌&&◌, ◌||◌, refl, List, [], ◌∷◌, is_some}
 use Rattle.wat_lexer.specs.Prelude.{both_true, Token, LParen, RParen}
-use Rattle.wat_tokens.specs.Kind.{Kind, a_lparen, an_id, an_integer, a_string, a_word, word_where, an_annotation, fits, next_is}
-use Rattle.wat_tokens.specs.Tests.{ends, second, look_up}
+use Rattle.wat_tokens.specs.Kind.{Kind, a_lparen, an_id, an_integer, a_string, a_word, an_annotation, content_where, fits, next_is}
+use Rattle.wat_tokens.specs.Tests.{ends, second, word_in}
 
 -- ---- questions
 
@@ -112,7 +112,7 @@ at_word w = at_kind (a_word w)
 
 -- one of the words of a table
 abbrev pub at_listed : {A : Type 0} → List (List ℕ × A) → Test
-at_listed table = at_kind (word_where (λ w. is_some (look_up table w)))
+at_listed table = at_kind (content_where (λ x. is_some (word_in table x)))
 
 -- tokens of the kinds in this order, and the answer of the question at the tokens after them
 abbrev pub in_order : List Kind → Question → Question

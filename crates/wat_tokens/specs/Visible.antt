@@ -1,5 +1,5 @@
 -- Tokens with their offsets: the first visible token, and the `)` that closes a group.
-use Rattle.std.specs.Prelude.{◌≡◌, ℕ, Bool, List, [], ◌∷◌, drop, Option, Some, None, if◌then◌else◌}
+use Rattle.std.specs.Prelude.{◌≡◌, ℕ, zero, suc, Bool, List, [], ◌∷◌, drop, Option, Some, None, if◌then◌else◌}
 use Rattle.wat_lexer.specs.Prelude.{hidden_count, visible_tokens, shuts, deeper, Token, Placed, tokens_of}
 
 -- the tokens from the first visible token on; either the five standard annotations are known, or no
@@ -14,6 +14,11 @@ seen known ts = visible_tokens known (tokens_of ts)
 -- the tokens after the first visible token
 abbrev pub behind_one : Bool → List Placed → List Placed
 behind_one known ts = drop 1 (shown known ts)
+
+-- the tokens directly after the first n visible tokens
+unfoldable pub placed_behind : Bool → ℕ → List Placed → List Placed
+placed_behind known zero ts = ts
+placed_behind known (suc n) ts = placed_behind known n (behind_one known ts)
 
 -- the offset is that of the first token; any offset if there is no token
 abbrev pub IsPlaceOf : ℕ → List Placed → Type 0

@@ -16,9 +16,12 @@ pub fn in_parens<'a, T: Parse<'a> + Drop>(parser: &mut Parser<'a>) -> Result<T, 
     ensures reads { ReadsAt T.cost T.view (paren T.grammar) result parser.old parser.new }
 {
     parser.open()?;
-    let value = T::parse(parser)?;
+    let found = T::parse(parser);
+    if found.is_err() {
+        return found;
+    }
     parser.close()?;
-    Ok(value)
+    found
 }
 
 /// Reads the keyword `word`, and then a `T`.
@@ -44,9 +47,12 @@ pub fn in_word_group<'a, T: Parse<'a> + Drop>(
 {
     parser.open()?;
     parser.keyword(word)?;
-    let value = T::parse(parser)?;
+    let found = T::parse(parser);
+    if found.is_err() {
+        return found;
+    }
     parser.close()?;
-    Ok(value)
+    found
 }
 
 /// A value in parentheses, as a type. [`in_parens`] reads the value.

@@ -18,8 +18,10 @@ pub fn push_into<T: Drop>(list: &mut Vec<T>, value: T) -> Result<(), Error>
 {
     if list.is_empty() {
         list.reserve_exact(1)?;
+    } else {
+        list.reserve(1)?;
     }
-    list.push(value)?;
+    list.push_reserved(value);
     Ok(())
 }
 

@@ -102,10 +102,11 @@ impl<'a> Parser<'a> {
         Ok(Parser::over(alloc, tokens, text.len()))
     }
 
-    /// Returns a parser before the first of the tokens of a text of `end` bytes. No annotation is
-    /// known.
+    /// Returns a parser before the first token of a text that is already cut into tokens. No
+    /// annotation is known. `end` is the length of the text in bytes: if no token is left, it is the
+    /// offset of the error Unexpected.
     #[tactic(auto, using(crate::proofs::Steps::placed_steps))]
-    fn over(alloc: Global, tokens: Tokens<'a>, end: usize) -> Parser<'a>
+    pub fn over(alloc: Global, tokens: Tokens<'a>, end: usize) -> Parser<'a>
         requires { AreSkips tokens }
         ensures { result ≡ begun (placed tokens.entry) }
     {

@@ -78,8 +78,8 @@ impl<'a> Parser<'a> {
         ensures reads { ReadsPrefix T.view T.grammar result self.old self.new }
         // Only types that can hold a vector or a box return Memory.
         ensures memory { IfErr result (λ e. e.fault ≡ Memory → T.view.may_use_heap ≡ true) }
-        // The tokens left are a suffix of the old ones, also on an error. The tokens taken are
-        // counted: `end`, `position`, `taken`, `within`, `peak`, `grows`.
+        // The tokens left are a suffix of the old ones, with the same offsets, also on an error.
+        // The tokens taken are counted: `end`, `position`, `taken`, `within`, `peak`, `grows`.
         ensures takes { TakesPrefix self.old self.new }
         // `turns` rises at most as much as `taken`, or by one more on an error.
         ensures turned { Turned result self.old self.new }

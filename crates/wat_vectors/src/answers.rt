@@ -62,7 +62,7 @@ fn nested_blocks_are_read(rt: HostRuntime) -> Result<(), Fail> {
     is_read(
         &rt,
         rt.alloc(),
-        Mode::ExpressionModel,
+        Mode::Expr,
         ["(block", ")"],
         ["block\n", "end\n"],
     )
@@ -73,7 +73,7 @@ fn nested_ifs_are_read(rt: HostRuntime) -> Result<(), Fail> {
     is_read(
         &rt,
         rt.alloc(),
-        Mode::ExpressionModel,
+        Mode::Expr,
         ["(if", "(then))"],
         ["if\nend\n", ""],
     )
@@ -86,20 +86,8 @@ fn nested_folded_instructions_are_read(rt: HostRuntime) -> Result<(), Fail> {
 
 #[test]
 fn nested_comments_and_annotations_are_read(rt: HostRuntime) -> Result<(), Fail> {
-    is_read(
-        &rt,
-        rt.alloc(),
-        Mode::ExpressionModel,
-        ["(;", ";)"],
-        ["", ""],
-    )?;
-    is_read(
-        &rt,
-        rt.alloc(),
-        Mode::ExpressionModel,
-        ["(@x", ")"],
-        ["", ""],
-    )
+    is_read(&rt, rt.alloc(), Mode::Expr, ["(;", ";)"], ["", ""])?;
+    is_read(&rt, rt.alloc(), Mode::Expr, ["(@x", ")"], ["", ""])
 }
 
 /// A nested text that is refused: its mode, what opens and closes each group, how many groups are
@@ -108,23 +96,13 @@ type RefusedRow = (Mode, [&'static str; 2], usize, &'static str);
 
 const REFUSED: [RefusedRow; 3] = [
     (
-        Mode::ExpressionModel,
+        Mode::Expr,
         ["(block", ")"],
         99_999,
         "refused Operator at 699999\n",
     ),
-    (
-        Mode::ExpressionModel,
-        ["(;", ";)"],
-        0,
-        "refused LexComment at 0\n",
-    ),
-    (
-        Mode::ExpressionModel,
-        ["(@x", ")"],
-        0,
-        "refused LexAnnotation at 0\n",
-    ),
+    (Mode::Expr, ["(;", ";)"], 0, "refused LexComment at 0\n"),
+    (Mode::Expr, ["(@x", ")"], 0, "refused LexAnnotation at 0\n"),
 ];
 
 /// The program refuses the bytes of a text with this output.
@@ -152,12 +130,7 @@ fn nested_texts_that_are_not_closed_are_refused(rt: HostRuntime) -> Result<(), F
 
 #[test]
 fn bytes_that_are_not_utf8_are_refused(rt: HostRuntime) -> Result<(), Fail> {
-    for mode in [
-        Mode::FuncType,
-        Mode::ExpressionModel,
-        Mode::Folded,
-        Mode::Module,
-    ] {
+    for mode in [Mode::FuncType, Mode::Expr, Mode::Folded, Mode::Module] {
         for text in [&b"\xff"[..], &b"(module)\xff"[..]] {
             is_refused(&rt, rt.alloc(), mode, text, "refused Utf8 at 0\n")?;
         }

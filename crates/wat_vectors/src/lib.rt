@@ -7,6 +7,7 @@
 //! - Types of a user's own.
 //! - What is printed of values that a program made.
 //! - Short texts that are formatted, that have float literals, or that have several errors.
+//! - The public names: `stable_names` and `stable_code` use each of them.
 #![tactic(auto)]
 
 #[cfg(test)]
@@ -44,6 +45,12 @@ mod refused;
 #[cfg(test)]
 mod script;
 #[cfg(test)]
+mod stable_code;
+#[cfg(test)]
+mod stable_names;
+#[cfg(test)]
 mod streams;
+#[cfg(test)]
+mod unused;
 #[cfg(test)]
 mod words;

@@ -1,8 +1,9 @@
-//! An expression that is taken apart, so that what is in it can be moved elsewhere.
+//! An expression that is taken apart, so that what is in it can be moved elsewhere; and the token
+//! after inline exports.
 
 use bumpalo::Bump;
 use std::test::Fail;
-use wat_core::{Expression, Parser};
+use wat_core::{Expression, InlineExport, Parser};
 
 #[test]
 fn an_expression_is_taken_apart(rt: HostRuntime) -> Result<(), Fail> {
@@ -19,5 +20,18 @@ fn an_expression_is_taken_apart(rt: HostRuntime) -> Result<(), Fail> {
         Some(kept) => assert_eq!(rt; kept.len(), 2),
         None => return Err("no spans".into()),
     }
+    Ok(())
+}
+
+// The third group is no export, so it isn't taken.
+#[test]
+fn inline_exports_end_before_another_group(rt: HostRuntime) -> Result<(), Fail> {
+    let arena = Bump::new(rt.alloc());
+    let text = "(export \"a\") (export \"b\") (import \"m\" \"n\")";
+    let mut parser = Parser::new(rt.alloc(), text, &arena)?;
+    let exports = parser.parse::<InlineExport>()?;
+    assert_eq!(rt; exports.names.as_slice(), &["a", "b"][..]);
+    assert_eq!(rt; parser.cur_span().offset(), 26);
+    assert!(rt; parser.cursor().group_is("import"));
     Ok(())
 }

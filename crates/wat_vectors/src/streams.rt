@@ -91,7 +91,7 @@ fn does(rt: &impl Abort, alloc: Global, text: &str, row: Row<'_>, takes_nothing:
         takes_nothing,
         calls: 0,
     });
-    let found = run(alloc, Mode::ExpressionModel, &mut reader, &mut writer);
+    let found = run(alloc, Mode::Expr, &mut reader, &mut writer);
     let target = writer.into_inner();
     let called = [reader.into_inner().calls, target.calls];
     assert_eq!(rt; (found, called), (outcome, calls), "call {read} or {write}");

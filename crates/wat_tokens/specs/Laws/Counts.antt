@@ -1,7 +1,7 @@
 -- Laws: how a call changes the counts of a parser.
 use Rattle.std.proofs.Common.{◌≡◌, Bool, ℕ, ◌+◌, List, [], ◌++◌, length, refl, arith, length-append, append_assoc, sym, ap, ◌∙◌}
-use Rattle.wat_lexer.specs.Token.{tokens_of}
-use Rattle.wat_tokens.specs.Prelude.{Token, State, behind, Counts, Carries}
+use Rattle.wat_lexer.specs.Token.{Placed}
+use Rattle.wat_tokens.specs.Prelude.{State, placed_behind, Counts, Carries}
 use Rattle.wat_tokens.specs.Laws.Parens.{nest_front, nest_end}
 use Rattle.wat_tokens.specs.Laws.State.{behind_then}
 
@@ -20,14 +20,14 @@ counts_then a b e p q = record {
   );
   peak = omega (arith, p.peak, q.peak, nest_front p.front q.front, nest_end p.front q.front);
   known = q.known ∙ p.known;
-  position = q.position ∙ ap (λ (k : Bool). behind k (length q.front) (tokens_of b.rest)) p.known
-      ∙ ap (λ (t : List Token). behind a.known (length q.front) t) p.position
-      ∙ behind_then a.known (length p.front) (length q.front) (tokens_of a.rest)
-      ∙ ap (λ (n : ℕ). behind a.known n (tokens_of a.rest)) (sym (length-append p.front q.front));
+  position = q.position ∙ ap (λ (k : Bool). placed_behind k (length q.front) b.rest) p.known
+      ∙ ap (λ (ts : List Placed). placed_behind a.known (length q.front) ts) p.position
+      ∙ behind_then a.known (length p.front) (length q.front) a.rest
+      ∙ ap (λ (n : ℕ). placed_behind a.known n a.rest) (sym (length-append p.front q.front));
 }
 
 pub counts_none : (a : State) → Counts a a
-unfolding Counts behind
+unfolding Counts placed_behind
 counts_none a =
     record {
       front = [];

@@ -12,7 +12,7 @@ pub use Rattle.std.specs.declared.cmp.Ordering.TheVariants.{Equal}
 pub use Rattle.wat_lexer.specs.Laws.Prelude.{cases_lt, get_or-map, first_so, by_test, tokens_of-placed, Annotation, Id, placed}
 pub use Rattle.wat_lexer.specs.declared.fault.Error.{Error}
 pub use Rattle.wat_tokens.specs.Prelude.{both_true, is_lt, bytes_eq, Ordering, Greater, Less, Keyword, LParen, RParen, Token, Memory, add_read, Carries, Quiet, group, identifier, joined, joined_behind, begins_name, NotHeapless, with_rest, Production, Read, bind, some_of, State, Test, at_listed, run, look_up, more, word_in, ViewOf, no_items}
-unfoldable pub use Rattle.wat_tokens.specs.Prelude.{hidden_count, Counts, many_reads, name_annotation, behind}
+unfoldable pub use Rattle.wat_tokens.specs.Prelude.{hidden_count, Counts, many_reads, name_annotation, placed_behind}
 pub use Rattle.wat_tokens.specs.Adding.{add_all}
 pub use Rattle.wat_tokens.specs.FollowedSpells.{followed_spells}
 pub use Rattle.wat_tokens.specs.Joined.{all_of, join}

@@ -1,11 +1,11 @@
 -- Laws: the first visible token, and the tokens after it.
-use Rattle.std.proofs.Common.{◌≡◌, ℕ, ◌+◌, Bool, List, [], ◌∷◌, drop, refl, ap, sym, ◌∙◌, inl, inr, drop-drop, Option, Some, None}
+use Rattle.std.proofs.Common.{◌≡◌, ℕ, zero, suc, ◌+◌, Bool, List, [], ◌∷◌, drop, refl, ap, sym, ◌∙◌, inl, inr, drop-drop, Option, Some, None}
 use Rattle.std.proofs.lemmas.List.{drop-map}
 use Rattle.wat_lexer.specs.Laws.Prelude.{cases_Bool}
 use Rattle.wat_lexer.specs.Prelude.{Token, Placed, tokens_of, begins_hidden_group, shuts, deeper}
 use Rattle.wat_lexer.specs.Sight.{visible, visible_tokens, hidden_count_at, hidden_count}
 use Rattle.wat_tokens.specs.State.{behind}
-use Rattle.wat_tokens.specs.Visible.{shown, seen, behind_one}
+use Rattle.wat_tokens.specs.Visible.{shown, seen, behind_one, placed_behind}
 
 -- the lists begin with the same token, or both are empty
 abbrev pub BeginAlike : List Token → List Placed → Type 0
@@ -35,10 +35,13 @@ pub seen_shown : (known : Bool) (ts : List Placed) → BeginAlike (seen known ts
 unfolding visible_tokens hidden_count
 seen_shown known ts = seen_shown_at known None ts
 
--- the tokens after the first visible token, without their offsets
-pub tokens_behind : (known : Bool) (ts : List Placed)
-    → tokens_of (behind_one known ts) ≡ behind known 1 (tokens_of ts)
-unfolding behind
-tokens_behind known ts =
-    let n = hidden_count known (tokens_of ts) in
-    ap tokens_of (drop-drop 1 n ts) ∙ sym (drop-map (λ (p : Placed). p.token) (n + 1) ts)
+-- the tokens after the first n visible tokens, without their offsets
+pub tokens_behind : (known : Bool) (n : ℕ) (ts : List Placed)
+    → tokens_of (placed_behind known n ts) ≡ behind known n (tokens_of ts)
+unfolding behind placed_behind
+tokens_behind known zero ts = refl
+tokens_behind known (suc n) ts =
+    let h = hidden_count known (tokens_of ts) in
+    let one : tokens_of (behind_one known ts) ≡ drop (h + 1) (tokens_of ts) =
+    ap tokens_of (drop-drop 1 h ts) ∙ sym (drop-map (λ (p : Placed). p.token) (h + 1) ts) in
+    tokens_behind known n (behind_one known ts) ∙ ap (λ (t : List Token). behind known n t) one

@@ -1,0 +1,4 @@
+pub mod FaultsAdded
+pub mod Kept
+pub mod NoFaults
+pub mod Sets

@@ -1,0 +1,11 @@
+pub use Rattle.wat_tokens.specs.Index
+pub use Rattle.wat_tokens.specs.Views
+pub mod Blocks
+pub mod Faults
+pub mod Frames
+pub mod Imports
+pub mod Known
+pub mod Laws
+pub mod NameFaults
+pub mod Spaces
+pub mod Steps
