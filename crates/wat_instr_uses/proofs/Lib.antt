@@ -1,0 +1,2 @@
+pub mod CatchAll
+pub mod Rows
