@@ -13,6 +13,8 @@ enum { MOST = 1 << 22, MANY = 64 };
 static uint8_t text[MOST], said[MOST];
 static wat_fault faults[MANY];
 static size_t count;
+/* a name that isn't UTF-8 */
+static const uint8_t file[] = {'a', '/', 0xff, 'b', '.', 'w', 'a', 't'};
 
 static void fail(const char *why) {
     if (write(2, why, strlen(why)) && write(2, "\n", 1))
@@ -20,7 +22,16 @@ static void fail(const char *why) {
     _exit(4);
 }
 
+static int32_t call_named(const char *name, size_t length, size_t room, size_t *needed) {
+    if (!strcmp(name, "check_named")) return wat_check_named(file, sizeof file, text, length, said, room, needed);
+    if (!strcmp(name, "list_named")) return wat_list_named(file, sizeof file, text, length, said, room, needed);
+    if (!strcmp(name, "format_named")) return wat_format_named(file, sizeof file, text, length, said, room, needed);
+    bool line = !strcmp(name, "line_named");
+    return wat_print_named(file, sizeof file, text, length, line, said, room, needed);
+}
+
 static int32_t call(const char *name, size_t length, size_t room, size_t *needed) {
+    if (strstr(name, "_named")) return call_named(name, length, room, needed);
     if (!strcmp(name, "check")) return wat_check(text, length, said, room, needed);
     if (!strcmp(name, "faults")) return wat_faults(text, length, faults, MANY, &count, said, room, needed);
     if (!strcmp(name, "list")) return wat_list(text, length, said, room, needed);

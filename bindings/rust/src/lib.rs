@@ -1,14 +1,23 @@
 //! The WebAssembly text format: checks, lists, prints and formats texts, by the proved library of Dilgorza.
 //!
 //! ```
-//! let faults = dilgorza::check("(module (func i32.ad))");
+//! let faults = dilgorza::check("(module (func i32.ad))")?;
 //! assert_eq!(faults[0].message, "no instruction is called `i32.ad`");
+//! # Ok::<(), dilgorza::OutOfMemory>(())
 //! ```
 //!
-//! A text is a `str` or bytes, which should be UTF-8. A call panics if the library runs out of memory.
+//! A text is a `str` or bytes, which should be UTF-8. Several threads can call at the same time. If memory runs out, a
+//! call returns an error.
+//!
+//! The functions that end in `_named` take the name of the text for reports, such as a path; the others call it
+//! `<text>`. In a name that isn't UTF-8, each invalid sequence of bytes becomes U+FFFD.
 #![deny(missing_docs)]
 
-use std::error::Error;
+mod kind;
+
+pub use kind::FaultKind;
+
+use std::error;
 use std::fmt;
 
 /// The struct `wat_fault` of wat.h.
@@ -26,9 +35,24 @@ struct Record {
     end: usize,
 }
 
-type OfText = unsafe extern "C" fn(*const u8, usize, *mut u8, usize, *mut usize) -> i32;
+/// A call for a text with a name.
+type OfText = unsafe extern "C" fn(*const u8, usize, *const u8, usize, *mut u8, usize, *mut usize) -> i32;
+
+/// A call that writes faults as records, and their messages.
+type Faults =
+    unsafe extern "C" fn(*const u8, usize, *mut Record, usize, *mut usize, *mut u8, usize, *mut usize) -> i32;
 
 unsafe extern "C" {
+    fn wat_faults_syntax(
+        text: *const u8,
+        length: usize,
+        faults: *mut Record,
+        space: usize,
+        count: *mut usize,
+        messages: *mut u8,
+        room: usize,
+        needed: *mut usize,
+    ) -> i32;
     fn wat_faults(
         text: *const u8,
         length: usize,
@@ -39,42 +63,51 @@ unsafe extern "C" {
         room: usize,
         needed: *mut usize,
     ) -> i32;
-    fn wat_list(text: *const u8, length: usize, said: *mut u8, room: usize, needed: *mut usize) -> i32;
-    fn wat_format(text: *const u8, length: usize, said: *mut u8, room: usize, needed: *mut usize) -> i32;
-    fn wat_print(text: *const u8, length: usize, line: bool, said: *mut u8, room: usize, needed: *mut usize) -> i32;
+    fn wat_check_named(
+        name: *const u8,
+        name_length: usize,
+        text: *const u8,
+        length: usize,
+        said: *mut u8,
+        room: usize,
+        needed: *mut usize,
+    ) -> i32;
+    fn wat_list_named(
+        name: *const u8,
+        name_length: usize,
+        text: *const u8,
+        length: usize,
+        said: *mut u8,
+        room: usize,
+        needed: *mut usize,
+    ) -> i32;
+    fn wat_format_named(
+        name: *const u8,
+        name_length: usize,
+        text: *const u8,
+        length: usize,
+        said: *mut u8,
+        room: usize,
+        needed: *mut usize,
+    ) -> i32;
+    fn wat_print_named(
+        name: *const u8,
+        name_length: usize,
+        text: *const u8,
+        length: usize,
+        line: bool,
+        said: *mut u8,
+        room: usize,
+        needed: *mut usize,
+    ) -> i32;
     fn wat_version(said: *mut u8, room: usize, needed: *mut usize) -> i32;
 }
 
-/// The names of faults by their numbers. `More` isn't a fault of the text: it has the number of invalid fields that
-/// aren't listed.
-pub const NAMES: [&str; 22] = [
-    "More",
-    "Memory",
-    "LexChar",
-    "LexString",
-    "LexComment",
-    "LexAnnotation",
-    "Unexpected",
-    "Range",
-    "Utf8",
-    "FloatLiteral",
-    "Alignment",
-    "PageSize",
-    "Operator",
-    "ParamAfterResult",
-    "IfWithoutThen",
-    "IfTooMany",
-    "HintValue",
-    "HintTwice",
-    "HintPlace",
-    "ImportMixed",
-    "ImportId",
-    "HintTarget",
-];
+const NO_NAME: &str = "<text>";
 
 /// An error of a text, with its position.
 ///
-/// If more than 20 fields are invalid, a fault whose name is `More` has the number of the others in its message. Its
+/// If more than 20 fields are invalid, a fault whose kind is `More` has the number of the others in its message. Its
 /// four numbers are 0.
 #[derive(Clone, Debug, PartialEq, Eq)]
 pub struct Fault {
@@ -86,8 +119,8 @@ pub struct Fault {
     pub line: usize,
     /// The column in characters, from 1.
     pub column: usize,
-    /// The name of the fault, one of [`NAMES`].
-    pub name: &'static str,
+    /// The kind of the fault.
+    pub kind: FaultKind,
     /// The message.
     pub message: String,
     /// A suggestion.
@@ -102,14 +135,14 @@ impl fmt::Display for Fault {
     }
 }
 
-impl Error for Fault {}
+impl error::Error for Fault {}
 
-/// The error of [`list()`], [`print()`] and [`format()`].
+/// The text can't be listed, printed or formatted.
 #[derive(Clone, Debug, PartialEq, Eq)]
 pub struct Refused {
-    /// The reason, as the program `wat` prints it.
+    /// The reason, as the program `wat` prints it for a file with the name of the text.
     pub report: String,
-    /// The faults that [`check()`] returns for the text. Empty if the only reason is a float literal, which `check`
+    /// The faults that [`check_syntax()`] returns for the text. Empty if the only reason is a float literal, which `check`
     /// accepts.
     pub faults: Vec<Fault>,
 }
@@ -120,62 +153,143 @@ impl fmt::Display for Refused {
     }
 }
 
-impl Error for Refused {}
+impl error::Error for Refused {}
 
-fn is_refused(status: i32) -> bool {
-    assert!(status == 0 || status == 1, "libwat ran out of memory");
-    status == 1
-}
+/// An allocation failed. This is no answer for the text.
+#[derive(Clone, Copy, Debug, PartialEq, Eq)]
+pub struct OutOfMemory;
 
-fn words(bytes: &[u8]) -> String {
-    String::from_utf8(bytes.to_vec()).expect("libwat writes UTF-8")
-}
-
-/// Returns whether the text is refused, and the output. Calls again with a greater buffer if the output doesn't fit.
-fn output(call: impl Fn(*mut u8, usize, &mut usize) -> i32) -> (bool, String) {
-    let mut room = vec![0; 4096];
-    loop {
-        let mut needed = 0;
-        let refused = is_refused(call(room.as_mut_ptr(), room.len(), &mut needed));
-        if needed <= room.len() {
-            return (refused, words(&room[..needed]));
-        }
-        room.resize(needed, 0);
+impl fmt::Display for OutOfMemory {
+    fn fmt(&self, f: &mut fmt::Formatter<'_>) -> fmt::Result {
+        f.write_str("out of memory")
     }
 }
 
-fn answer(text: &[u8], (refused, output): (bool, String)) -> Result<String, Refused> {
-    if refused { Err(Refused { report: output, faults: check(text) }) } else { Ok(output) }
+impl error::Error for OutOfMemory {}
+
+/// The error of [`list()`], [`print()`] and [`format()`].
+#[derive(Clone, Debug, PartialEq, Eq)]
+pub enum Error {
+    /// The text can't be listed, printed or formatted.
+    Refused(Refused),
+    /// An allocation failed.
+    OutOfMemory,
 }
 
-fn answer_of(call: OfText, text: &[u8]) -> Result<String, Refused> {
+impl fmt::Display for Error {
+    fn fmt(&self, f: &mut fmt::Formatter<'_>) -> fmt::Result {
+        match self {
+            Error::Refused(refused) => fmt::Display::fmt(refused, f),
+            Error::OutOfMemory => fmt::Display::fmt(&OutOfMemory, f),
+        }
+    }
+}
+
+impl error::Error for Error {}
+
+impl From<OutOfMemory> for Error {
+    fn from(_: OutOfMemory) -> Self {
+        Error::OutOfMemory
+    }
+}
+
+/// Returns whether a call with this status refused the text.
+fn is_refused(status: i32) -> Result<bool, OutOfMemory> {
+    match status {
+        0 => Ok(false),
+        1 => Ok(true),
+        _ => Err(OutOfMemory),
+    }
+}
+
+/// Returns a vector of `length` items.
+fn filled<T: Clone + Default>(length: usize) -> Result<Vec<T>, OutOfMemory> {
+    let mut items = Vec::new();
+    items.try_reserve_exact(length).map_err(|_| OutOfMemory)?;
+    items.resize(length, T::default());
+    Ok(items)
+}
+
+fn words(bytes: &[u8]) -> Result<String, OutOfMemory> {
+    let mut copy = String::new();
+    copy.try_reserve_exact(bytes.len()).map_err(|_| OutOfMemory)?;
+    copy.push_str(std::str::from_utf8(bytes).expect("libwat writes UTF-8"));
+    Ok(copy)
+}
+
+/// Returns whether the text is refused, and the output. Calls again with a greater buffer if the output doesn't fit.
+fn output(call: impl Fn(*mut u8, usize, &mut usize) -> i32) -> Result<(bool, String), OutOfMemory> {
+    let mut room = filled(4096)?;
+    loop {
+        let mut needed = 0;
+        let refused = is_refused(call(room.as_mut_ptr(), room.len(), &mut needed))?;
+        if needed <= room.len() {
+            return Ok((refused, words(&room[..needed])?));
+        }
+        room = filled(needed)?;
+    }
+}
+
+fn output_of(call: OfText, name: &[u8], text: &[u8]) -> Result<(bool, String), OutOfMemory> {
     // SAFETY: each pointer points to as many bytes as the number after it says, and the buffers don't overlap.
-    answer(text, output(|room, length, needed| unsafe { call(text.as_ptr(), text.len(), room, length, needed) }))
+    output(|room, length, needed| unsafe {
+        call(name.as_ptr(), name.len(), text.as_ptr(), text.len(), room, length, needed)
+    })
 }
 
-fn fault(record: &Record, messages: &[u8]) -> Fault {
-    let part = |start: usize, end: usize| (start < end).then(|| words(&messages[start..end]));
-    Fault {
+/// Returns the output, or an error if the text is refused.
+fn answer(text: &[u8], (refused, output): (bool, String)) -> Result<String, Error> {
+    if refused { Err(Error::Refused(Refused { report: output, faults: check_syntax(text)? })) } else { Ok(output) }
+}
+
+fn fault(record: &Record, messages: &[u8]) -> Result<Fault, OutOfMemory> {
+    let part = |start: usize, end: usize| (start < end).then(|| words(&messages[start..end])).transpose();
+    Ok(Fault {
         offset: record.offset,
         length: record.length,
         line: record.line,
         column: record.column,
-        name: NAMES[record.fault],
-        message: words(&messages[record.message..record.hint]),
-        hint: part(record.hint, record.expected),
-        expected: part(record.expected, record.end),
-    }
+        kind: FaultKind::of(record.fault),
+        message: words(&messages[record.message..record.hint])?,
+        hint: part(record.hint, record.expected)?,
+        expected: part(record.expected, record.end)?,
+    })
 }
 
-/// Returns the faults of the text; for a module the list is empty. Types and indices aren't checked.
-pub fn check(text: impl AsRef<[u8]>) -> Vec<Fault> {
-    let text = text.as_ref();
-    let (mut records, mut messages) = (vec![Record::default(); 32], vec![0; 4096]);
+fn faults(records: &[Record], messages: &[u8]) -> Result<Vec<Fault>, OutOfMemory> {
+    let mut found = Vec::new();
+    found.try_reserve_exact(records.len()).map_err(|_| OutOfMemory)?;
+    for record in records {
+        found.push(fault(record, messages)?);
+    }
+    Ok(found)
+}
+
+/// Returns the faults of the text; the list is empty for a module without errors of names, blocks and imports.
+/// Types, and indices that are numbers, aren't checked.
+///
+/// # Errors
+/// An allocation fails.
+pub fn check(text: impl AsRef<[u8]>) -> Result<Vec<Fault>, OutOfMemory> {
+    faults_of(wat_faults, text.as_ref())
+}
+
+/// Returns the faults that [`check()`] returns, without the errors of names, blocks and imports.
+///
+/// # Errors
+/// An allocation fails.
+pub fn check_syntax(text: impl AsRef<[u8]>) -> Result<Vec<Fault>, OutOfMemory> {
+    faults_of(wat_faults_syntax, text.as_ref())
+}
+
+/// Returns the faults of the text that a call writes.
+fn faults_of(call: Faults, text: &[u8]) -> Result<Vec<Fault>, OutOfMemory> {
+    let (mut records, mut messages) = (filled(32)?, filled(4096)?);
     loop {
         let (mut count, mut needed) = (0, 0);
-        // SAFETY: as in answer_of; `records` has as many records as `space` says.
+        // SAFETY: as in output_of; `records` has as many records as `space` says.
         let status = unsafe {
-            wat_faults(
+            call(
                 text.as_ptr(),
                 text.len(),
                 records.as_mut_ptr(),
@@ -186,46 +300,110 @@ pub fn check(text: impl AsRef<[u8]>) -> Vec<Fault> {
                 &mut needed,
             )
         };
-        is_refused(status);
+        is_refused(status)?;
         if count <= records.len() && needed <= messages.len() {
-            return records[..count].iter().map(|record| fault(record, &messages)).collect();
+            return faults(&records[..count], &messages);
         }
-        records.resize(count.max(records.len()), Record::default());
-        messages.resize(needed.max(messages.len()), 0);
+        records = filled(count.max(records.len()))?;
+        messages = filled(needed.max(messages.len()))?;
     }
+}
+
+/// Returns the report that `wat check` prints for the text in a file with this name; empty for a module.
+///
+/// # Errors
+/// An allocation fails.
+pub fn report_named(name: impl AsRef<[u8]>, text: impl AsRef<[u8]>) -> Result<String, OutOfMemory> {
+    Ok(output_of(wat_check_named, name.as_ref(), text.as_ref())?.1)
+}
+
+/// Returns the report that `wat check` prints for the text; empty for a module.
+///
+/// # Errors
+/// An allocation fails.
+pub fn report(text: impl AsRef<[u8]>) -> Result<String, OutOfMemory> {
+    report_named(NO_NAME, text)
 }
 
 /// Returns the formatted text: only white space differs.
 ///
 /// # Errors
-/// The text has an invalid token.
-pub fn format(text: impl AsRef<[u8]>) -> Result<String, Refused> {
-    answer_of(wat_format, text.as_ref())
+/// The text has an invalid token, or an allocation fails.
+pub fn format_named(name: impl AsRef<[u8]>, text: impl AsRef<[u8]>) -> Result<String, Error> {
+    let text = text.as_ref();
+    answer(text, output_of(wat_format_named, name.as_ref(), text)?)
+}
+
+/// Returns the formatted text: only white space differs.
+///
+/// # Errors
+/// The text has an invalid token, or an allocation fails.
+pub fn format(text: impl AsRef<[u8]>) -> Result<String, Error> {
+    format_named(NO_NAME, text)
 }
 
 /// Returns a text that parses back to the same module, flat and without comments; if `line` is true, on one line.
 ///
 /// # Errors
-/// The text isn't a module, or has a float literal.
-pub fn print(text: impl AsRef<[u8]>, line: bool) -> Result<String, Refused> {
-    let text = text.as_ref();
-    // SAFETY: as in answer_of.
+/// The text isn't a module, or has a float literal, or an allocation fails.
+pub fn print_named(name: impl AsRef<[u8]>, text: impl AsRef<[u8]>, line: bool) -> Result<String, Error> {
+    let (name, text) = (name.as_ref(), text.as_ref());
+    // SAFETY: as in output_of.
     let call = |room, length, needed: &mut usize| unsafe {
-        wat_print(text.as_ptr(), text.len(), line, room, length, needed)
+        wat_print_named(name.as_ptr(), name.len(), text.as_ptr(), text.len(), line, room, length, needed)
     };
-    answer(text, output(call))
+    answer(text, output(call)?)
+}
+
+/// Returns a text that parses back to the same module, flat and without comments; if `line` is true, on one line.
+///
+/// # Errors
+/// The text isn't a module, or has a float literal, or an allocation fails.
+pub fn print(text: impl AsRef<[u8]>, line: bool) -> Result<String, Error> {
+    print_named(NO_NAME, text, line)
 }
 
 /// Returns the contents of the module, one field or instruction per line.
 ///
 /// # Errors
-/// The text isn't a module, or has a float literal.
-pub fn list(text: impl AsRef<[u8]>) -> Result<String, Refused> {
-    answer_of(wat_list, text.as_ref())
+/// The text isn't a module, or has a float literal, or an allocation fails.
+pub fn list_named(name: impl AsRef<[u8]>, text: impl AsRef<[u8]>) -> Result<String, Error> {
+    let text = text.as_ref();
+    answer(text, output_of(wat_list_named, name.as_ref(), text)?)
+}
+
+/// Returns the contents of the module, one field or instruction per line.
+///
+/// # Errors
+/// The text isn't a module, or has a float literal, or an allocation fails.
+pub fn list(text: impl AsRef<[u8]>) -> Result<String, Error> {
+    list_named(NO_NAME, text)
 }
 
 /// Returns the name and the version of the library.
-pub fn version() -> String {
-    // SAFETY: as in answer_of.
-    output(|room, length, needed| unsafe { wat_version(room, length, needed) }).1
+///
+/// # Errors
+/// An allocation fails.
+pub fn version() -> Result<String, OutOfMemory> {
+    // SAFETY: as in output_of.
+    Ok(output(|room, length, needed| unsafe { wat_version(room, length, needed) })?.1)
+}
+
+#[cfg(test)]
+mod tests {
+    use super::*;
+
+    #[test]
+    fn no_memory_is_an_error() {
+        assert_eq!(output(|_, _, _| 2), Err(OutOfMemory));
+        assert_eq!(filled::<Record>(usize::MAX / 2).map(|it| it.len()), Err(OutOfMemory));
+    }
+
+    #[test]
+    fn kinds_have_numbers() {
+        for number in 0..200 {
+            assert_eq!(FaultKind::of(number).number(), number);
+        }
+        assert_eq!(FaultKind::of(12).name(), "Operator");
+    }
 }

@@ -1,6 +1,9 @@
 pub mod Commands
+pub mod Diffs
 pub mod Directories
 pub mod Formats
 pub mod Inputs
+pub mod Paints
 pub mod Runs
+pub mod Tasks
 pub mod Prelude

@@ -1,29 +1,34 @@
 -- The answers of a run over several names.
-use Rattle.std.specs.Prelude.{◌≡◌, ◌⊎◌, ℕ, ◌≤◌, ◌==◌, if◌then◌else◌, List, [], ◌∷◌, ◌++◌, length, max, take, Option}
+use Rattle.std.specs.Prelude.{Bool, ◌≡◌, ◌⊎◌, ℕ, ◌≤◌, ◌==◌, if◌then◌else◌, List, [], ◌∷◌, ◌++◌, length, max, take, Option}
 use Rattle.wat_answers.specs.Prelude.{Appends, AnswersBytes, AppendsBeginning}
 use Rattle.wat.specs.Inputs.{shown_name}
+use Rattle.wat.specs.Paints.{IsColored}
 use Rattle.wat_answers.specs.declared.task.Task.{Task}
-use Rattle.wat_answers.specs.declared.task.Task.TheVariants.{Print}
+use Rattle.wat_answers.specs.declared.task.Task.TheVariants.{Check, Json, Listing, Print}
 
 -- The answer for an input that a name stands for is that for its bytes. It is empty, with status 2,
 -- where the read fails, or where memory runs out after it.
 unfoldable pub AnswersName : (List ℕ → List ℕ → Type 0) → (List ℕ → Type 0) → Task → List ℕ → List ℕ
-    → ℕ → Type 0
-AnswersName gives fails task name output status =
-    ((bytes : List ℕ) × gives name bytes × AnswersBytes task (shown_name name) bytes output status)
+    → List ℕ → ℕ → Type 0
+AnswersName gives fails task stdin name output status =
+    ((bytes : List ℕ) × gives name bytes × AnswersBytes task (shown_name stdin name) bytes output status)
     ⊎ ((fails name ⊎ ((bytes : List ℕ) × gives name bytes)) × (output ≡ []) × (status ≡ 2))
 
--- the part of an answer that goes to the writer: not the reason why a module isn't printed
-unfoldable pub written_of : Task → ℕ → List ℕ → List ℕ
-written_of (Print layout) status output = if status == 0 then output else []
-written_of _ status output = output
+-- How an answer is written: the report of a check with colors or without, and not the reason why a
+-- module isn't printed.
+unfoldable pub IsWritten : Bool → Task → ℕ → List ℕ → List ℕ → Type 0
+IsWritten color (Check extent) status answer output = IsColored color answer output
+IsWritten color (Json extent) status answer output = output ≡ answer
+IsWritten color Listing status answer output = output ≡ answer
+IsWritten color (Print layout) status answer output =
+    output ≡ (if status == 0 then answer else [])
 
--- the part of the answer for a name that is written
-unfoldable pub WritesName : (List ℕ → List ℕ → Type 0) → (List ℕ → Type 0) → Task → List ℕ
-    → List ℕ → ℕ → Type 0
-WritesName gives fails task name shown status =
-    (output : List ℕ) × AnswersName gives fails task name output status
-    × (shown ≡ written_of task status output)
+-- the answer for a name, as it is written
+unfoldable pub WritesName : (List ℕ → List ℕ → Type 0) → (List ℕ → Type 0) → Bool → Task → List ℕ
+    → List ℕ → List ℕ → ℕ → Type 0
+WritesName gives fails color task stdin name output status =
+    (answer : List ℕ) × AnswersName gives fails task stdin name answer status
+    × IsWritten color task status answer output
 
 -- The answers for names, one after another, from the first state of the sources to the last. The
 -- status is the greatest of their statuses, and 0 for no names.

@@ -1,27 +1,78 @@
 //! The arguments of the program: a command, its options, and the inputs.
 
-ghost use Rattle.std.specs.Prelude.{◌≡◌, ◌≤◌, ◌+◌, ◌∷◌, ◌++◌, [], IfOk, codes, filter, length, map};
+ghost use Rattle.std.specs.Prelude.{◌≡◌, ◌++◌, ◌≤◌, ◌+◌, ◌∷◌, IfOk, codes, filter, length, map};
 ghost use Rattle.wat_answers.specs.Prelude.{after_first, before_first, position_or_len, string_bytes};
-ghost use Rattle.wat.specs.Commands.{asks_for_help, check_of, command_of, files_of, has_word, inputs_of, is_end, is_file, is_option, list_of, option_given, print_of, unknown_option};
+ghost use Rattle.wat.specs.Tasks.{check_task, extent_of};
+ghost use Rattle.wat.specs.Commands.{asks_for_help, color_after, color_of, command_named, command_of, files_of, format_mode, has_word, help_topic, inputs_of, is_color, is_end, is_file, is_option, joined, joined_first, message_for, name_after, name_of, own_option, stdin_name, takes, takes_value, unknown_option, with_options};
 
 use std::alloc::{AllocError, Global};
-use wat_answers::Task;
+use wat_answers::{Extent, Task};
 use wat_print::Layout;
 
-/// A command that reads inputs.
+/// The name of a command.
+#[derive(Clone, Copy, Debug, PartialEq, Eq)]
+pub(crate) enum CommandName {
+    /// `check`.
+    Check,
+    /// `list`.
+    Listing,
+    /// `print`.
+    Print,
+    /// `fmt`.
+    Format,
+}
+
+/// When errors are coloured.
+#[derive(Clone, Copy, Debug, PartialEq, Eq)]
+pub(crate) enum Color {
+    /// Always.
+    Always,
+    /// Never.
+    Never,
+    /// If standard output is a terminal, and the variable `NO_COLOR` isn't set or is empty.
+    Auto,
+}
+
+/// The options of `check`.
+#[derive(Clone, Copy, Debug, PartialEq, Eq)]
+pub(crate) struct CheckOptions {
+    /// Each error is printed as a JSON object.
+    pub json: bool,
+    /// Names and blocks aren't checked.
+    pub syntax: bool,
+    /// When errors are coloured.
+    pub color: Color,
+}
+
+/// What `fmt` does with each input.
+#[derive(Clone, Copy, Debug, PartialEq, Eq)]
+pub(crate) enum FormatMode {
+    /// Formats a file in place, and prints the formatted text of standard input.
+    Rewrite,
+    /// Prints the name of each input that would change.
+    ListChanged,
+    /// Prints what would change in each input.
+    Diff,
+}
+
+/// A command that reads inputs, with its options.
 #[derive(Clone, Copy, Debug, PartialEq, Eq)]
 pub(crate) enum Command {
-    /// `check`, `list` or `print`: parses each input as a module.
-    Read(Task),
-    /// `fmt`: formats each input; or, if true, prints the names of those that would change.
-    Format(bool),
+    /// `check`.
+    Checks(CheckOptions),
+    /// `list`.
+    Lists,
+    /// `print`, in this layout.
+    Prints(Layout),
+    /// `fmt`.
+    Formats(FormatMode),
 }
 
 /// What the program prints if it runs no command.
 #[derive(Clone, Copy, Debug, PartialEq, Eq)]
 pub(crate) enum Message {
-    /// The help.
-    Help,
+    /// The help of a command, or of the program.
+    Help(Option<CommandName>),
     /// The version.
     Version,
     /// There are no arguments.
@@ -30,10 +81,54 @@ pub(crate) enum Message {
     UnknownCommand,
     /// The command doesn't have an option: the argument at this index after the command.
     UnknownOption(usize),
-    /// `list` has no file, or several.
-    ListFiles,
-    /// `print` has several files.
-    PrintFiles,
+}
+
+/// Returns whether an option takes the argument after it as its value.
+pub(crate) fn takes_value(word: &str) -> bool
+    ensures { result ≡ takes_value word.now }
+{
+    word == "--color" || word == "--stdin-filepath"
+}
+
+/// Adds a word and, if it is an option that takes a value, the word after it. Returns the words that
+/// are left of those after it.
+fn add_joined<'a>(
+    all: &mut Vec<String>,
+    word: &String,
+    rest: &'a [String],
+) -> Result<&'a [String], AllocError>
+    ensures words { IfOk result (λ left. map string_bytes all.new.items ++ joined (map string_bytes left.now)
+        ≡ map string_bytes all.old.items ++ joined_first (string_bytes word.now)
+        (map string_bytes rest.entry.now)) }
+    ensures shorter { IfOk result (λ left. length left.now ≤ length rest.entry.now) }
+{
+    match rest.split_first() {
+        Some((value, left)) if takes_value(word.as_str()) => {
+            all.push(format!(in *all.allocator(); "{word}={value}")?)?;
+            Ok(left)
+        }
+        _ => {
+            all.push(word.clone()?)?;
+            Ok(rest)
+        }
+    }
+}
+
+/// Returns the arguments, with each option that takes a value and its value joined by `=`.
+pub(crate) fn joined(alloc: Global, words: &[String]) -> Result<Vec<String>, AllocError>
+    ensures { IfOk result (λ all. map string_bytes all.items
+        ≡ joined (map string_bytes words.now)) }
+{
+    let mut all = Vec::new(alloc);
+    let mut left = words;
+    while let Some((word, rest)) = left.split_first() {
+        if word.as_str() == "--" {
+            add_words(&mut all, left)?;
+            return Ok(all);
+        }
+        left = add_joined(&mut all, word, rest)?;
+    }
+    Ok(all)
 }
 
 /// Returns whether an argument is an option: it begins with `-` and is longer.
@@ -68,12 +163,39 @@ fn has_word(words: &[String], wanted: &str) -> bool
     false
 }
 
-/// Returns the index of the first option other than `own`.
-fn unknown_option(words: &[String], own: &str) -> Option<usize>
-    ensures { result ≡ unknown_option own.now (map string_bytes words.now) }
+/// Returns whether an option sets the color.
+fn is_color(word: &str) -> bool
+    ensures { result ≡ is_color word.now }
+{
+    word == "--color=always" || word == "--color=never" || word == "--color=auto"
+}
+
+/// Returns whether a command has an option that some other commands don't have.
+fn own_option(name: CommandName, word: &str) -> bool
+    ensures { result ≡ own_option name word.now }
+{
+    match name {
+        CommandName::Check => word == "--json" || word == "--syntax" || is_color(word),
+        CommandName::Listing => false,
+        CommandName::Print => word == "--line",
+        CommandName::Format => word == "--check" || word == "--diff",
+    }
+}
+
+/// Returns whether a command has an option.
+fn takes(name: CommandName, word: &str) -> bool
+    ensures { result ≡ takes name word.now }
+{
+    let names_input = word.as_bytes().starts_with(b"--stdin-filepath=".as_slice());
+    names_input || own_option(name, word)
+}
+
+/// Returns the index of the first option that a command doesn't have.
+fn unknown_option(name: CommandName, words: &[String]) -> Option<usize>
+    ensures { result ≡ unknown_option name (map string_bytes words.now) }
 {
     for (at, word) in words.iter().enumerate() {
-        if is_option(word.as_str()) && word.as_str() != own {
+        if is_option(word.as_str()) && !takes(name, word.as_str()) {
             return Some(at);
         }
     }
@@ -102,24 +224,6 @@ fn asks_for_help(words: &[String]) -> bool
     has_word(words, "-h") || has_word(words, "--help")
 }
 
-/// Returns whether the option `own` is given among the arguments after a command. `own` is empty
-/// for a command without options.
-///
-/// Returns [`Message::Help`] if help is asked for, and otherwise [`Message::UnknownOption`] for the
-/// first other option.
-fn option_given(own: &str, words: &[String]) -> Result<bool, Message>
-    ensures { result ≡ option_given own.now (map string_bytes words.now) }
-{
-    let (options, _) = parts_of(words);
-    if asks_for_help(options) {
-        return Err(Message::Help);
-    }
-    match unknown_option(options, own) {
-        Some(at) => Err(Message::UnknownOption(at)),
-        None => Ok(has_word(options, own)),
-    }
-}
-
 /// Adds all words to the files.
 fn add_words(files: &mut Vec<String>, words: &[String]) -> Result<(), AllocError>
     ensures { IfOk result (λ _. map string_bytes files.new.items
@@ -142,28 +246,6 @@ fn add_files(files: &mut Vec<String>, words: &[String]) -> Result<(), AllocError
         }
     }
     Ok(())
-}
-
-/// Returns the number of words that aren't options.
-fn count_files(words: &[String]) -> usize
-    ensures all { result ≡ length (filter is_file (map string_bytes words.now)) }
-    ensures some { result ≤ length words.now }
-{
-    let mut count = 0;
-    for word in words {
-        if !is_option(word.as_str()) {
-            count += 1;
-        }
-    }
-    count
-}
-
-/// Returns the number of files among the arguments after a command.
-fn file_count(words: &[String]) -> usize
-    ensures { result ≡ length (files_of (map string_bytes words.now)) }
-{
-    let (before, after) = parts_of(words);
-    count_files(before) + after.len()
 }
 
 /// Returns the files among the arguments after a command.
@@ -191,52 +273,140 @@ pub(crate) fn inputs_of(alloc: Global, words: &[String]) -> Result<Vec<String>, 
     Ok(inputs)
 }
 
-/// Returns what `check` asks for.
-fn check_of(words: &[String]) -> Result<Command, Message>
-    ensures { result ≡ check_of (option_given (codes "--json") (map string_bytes words.now)) }
+/// Returns the color that a word names after `--color=`; another word leaves the color as it is.
+fn color_after(color: Color, word: &str) -> Color
+    ensures { result ≡ color_after color word.now }
 {
-    let json = option_given("--json", words)?;
-    Ok(Command::Read(if json { Task::Json } else { Task::Check }))
+    match word {
+        "--color=always" => Color::Always,
+        "--color=never" => Color::Never,
+        "--color=auto" => Color::Auto,
+        _ => color,
+    }
 }
 
-/// Returns what `list` asks for.
-fn list_of(words: &[String]) -> Result<Command, Message>
-    ensures { result ≡ list_of (option_given [] (map string_bytes words.now))
-        (length (files_of (map string_bytes words.now))) }
+/// Returns the color that the last option `--color` names, or [`Color::Auto`] if there is none.
+fn color_of(options: &[String]) -> Color
+    ensures { result ≡ color_of Color.Auto (map string_bytes options.now) }
 {
-    option_given("", words)?;
-    if file_count(words) == 1 {
-        Ok(Command::Read(Task::Listing))
+    let mut color = Color::Auto;
+    for word in options {
+        color = color_after(color, word.as_str());
+    }
+    color
+}
+
+/// Returns what `fmt` does with each input. `--diff` comes before `--check`.
+fn format_mode(check: bool, diff: bool) -> FormatMode
+    ensures { result ≡ format_mode check diff }
+{
+    if diff {
+        FormatMode::Diff
+    } else if check {
+        FormatMode::ListChanged
     } else {
-        Err(Message::ListFiles)
+        FormatMode::Rewrite
     }
 }
 
-/// Returns what `print` asks for.
-fn print_of(words: &[String]) -> Result<Command, Message>
-    ensures { result ≡ print_of (option_given (codes "--line") (map string_bytes words.now))
-        (length (files_of (map string_bytes words.now))) }
+/// Returns a command with its options.
+fn with_options(name: CommandName, options: &[String]) -> Command
+    ensures { result ≡ with_options name (map string_bytes options.now) }
 {
-    let line = option_given("--line", words)?;
-    if file_count(words) > 1 {
-        return Err(Message::PrintFiles);
+    match name {
+        CommandName::Check => Command::Checks(CheckOptions {
+            json: has_word(options, "--json"),
+            syntax: has_word(options, "--syntax"),
+            color: color_of(options),
+        }),
+        CommandName::Listing => Command::Lists,
+        CommandName::Print if has_word(options, "--line") => Command::Prints(Layout::Line),
+        CommandName::Print => Command::Prints(Layout::Indented),
+        CommandName::Format => Command::Formats(format_mode(
+            has_word(options, "--check"),
+            has_word(options, "--diff"),
+        )),
     }
-    let layout = if line { Layout::Line } else { Layout::Indented };
-    Ok(Command::Read(Task::Print(layout)))
+}
+
+/// Returns what a command and the arguments after it ask for.
+fn command_named(name: CommandName, words: &[String]) -> Result<Command, Message>
+    ensures { result ≡ command_named name (map string_bytes words.now) }
+{
+    let (options, _) = parts_of(words);
+    if asks_for_help(options) {
+        return Err(Message::Help(Some(name)));
+    }
+    match unknown_option(name, options) {
+        Some(at) => Err(Message::UnknownOption(at)),
+        None => Ok(with_options(name, options)),
+    }
+}
+
+/// Returns what a check covers, with `--syntax` or without.
+fn extent_of(syntax: bool) -> Extent
+    ensures { result ≡ extent_of syntax }
+{
+    if syntax {
+        Extent::Syntax
+    } else {
+        Extent::Names
+    }
+}
+
+/// Returns the task of `check` with its options.
+pub(crate) fn check_task(options: CheckOptions) -> Task
+    ensures { result ≡ check_task options }
+{
+    let extent = extent_of(options.syntax);
+    if options.json {
+        Task::Json(extent)
+    } else {
+        Task::Check(extent)
+    }
+}
+
+/// Returns the command that a word names.
+fn name_of(word: &str) -> Option<CommandName>
+    ensures { result ≡ name_of word.now }
+{
+    match word {
+        "check" => Some(CommandName::Check),
+        "list" => Some(CommandName::Listing),
+        "print" => Some(CommandName::Print),
+        "fmt" => Some(CommandName::Format),
+        _ => None,
+    }
+}
+
+/// Returns the command that the first of some words names.
+fn help_topic(words: &[String]) -> Option<CommandName>
+    ensures { result ≡ help_topic (map string_bytes words.now) }
+{
+    match words.split_first() {
+        Some((word, _)) => name_of(word.as_str()),
+        None => None,
+    }
+}
+
+/// Returns what to print for a first argument that isn't a command, with the arguments after it.
+fn message_for(first: &str, words: &[String]) -> Message
+    ensures { result ≡ message_for first.now (map string_bytes words.now) }
+{
+    match first {
+        "help" | "-h" | "--help" => Message::Help(help_topic(words)),
+        "-V" | "--version" => Message::Version,
+        _ => Message::UnknownCommand,
+    }
 }
 
 /// Returns what a first argument asks for, with the arguments after it.
 fn command_with(first: &str, words: &[String]) -> Result<Command, Message>
     ensures { result ≡ command_of (first.now ∷ map string_bytes words.now) }
 {
-    match first {
-        "check" => check_of(words),
-        "list" => list_of(words),
-        "print" => print_of(words),
-        "fmt" => Ok(Command::Format(option_given("--check", words)?)),
-        "help" | "-h" | "--help" => Err(Message::Help),
-        "--version" => Err(Message::Version),
-        _ => Err(Message::UnknownCommand),
+    match name_of(first) {
+        Some(name) => command_named(name, words),
+        None => Err(message_for(first, words)),
     }
 }
 
@@ -249,4 +419,28 @@ pub(crate) fn command_of(words: &[String]) -> Result<Command, Message>
         Some((first, others)) => command_with(first.as_str(), others),
         None => Err(Message::NoCommand),
     }
+}
+
+/// Returns the value of an option `--stdin-filepath`; for another word, the name that is passed.
+fn name_after<'a>(name: &'a str, word: &'a str) -> &'a str
+    ensures { result.now ≡ name_after name.now word.now }
+{
+    match word.strip_prefix("--stdin-filepath=") {
+        Some(given) => given,
+        None => name,
+    }
+}
+
+/// Returns the name of standard input: the value of the last option `--stdin-filepath` among the
+/// arguments after a command, or `<stdin>` if there is none.
+pub(crate) fn stdin_name(words: &[String]) -> &str
+    ensures { result.now ≡ stdin_name (codes "<stdin>")
+        (before_first is_end (map string_bytes words.now)) }
+{
+    let (options, _) = parts_of(words);
+    let mut name = "<stdin>";
+    for word in options {
+        name = name_after(name, word.as_str());
+    }
+    name
 }

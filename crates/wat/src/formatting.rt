@@ -1,10 +1,12 @@
 //! The formatting of texts.
 
-ghost use Rattle.std.specs.Prelude.{◌≡◌, ◌++◌, ◌∷◌, ◌⊎◌, [], ℕ, IfOk, IfErr, List, MatchResult};
+ghost use Rattle.std.specs.Prelude.{◌≡◌, ◌++◌, ◌⊎◌, ℕ, codes, IfOk, IfErr, List, MatchResult};
 ghost use Rattle.wat_answers.specs.Prelude.{string_bytes, IsFormatted, ReportsBytes};
 ghost use Rattle.wat.specs.Formats.{FormatsName, Settles, format_task};
 ghost use Rattle.wat.specs.Inputs.{shown_name};
 
+use crate::command::FormatMode;
+use crate::diff::diff_of;
 use crate::run::{Watcher, Work};
 use crate::source::{Replaceable, shown_name};
 use std::alloc::{AllocError, Global};
@@ -18,26 +20,27 @@ pub(crate) enum FormatTask {
     WriteOut,
     /// The input's name is written if the formatted text differs.
     Check,
+    /// A diff of the input and the formatted text is written if they differ.
+    Compare,
     /// It replaces the input if it differs.
     Replace,
 }
 
 /// Returns what becomes of the formatted text of an input. Standard input can't be replaced.
-fn format_task(check: bool, name: &str) -> FormatTask
-    ensures { result ≡ format_task check name.now }
+fn format_task(mode: FormatMode, name: &str) -> FormatTask
+    ensures { result ≡ format_task mode name.now }
 {
-    if check {
-        FormatTask::Check
-    } else if name == "-" {
-        FormatTask::WriteOut
-    } else {
-        FormatTask::Replace
+    match mode {
+        FormatMode::ListChanged => FormatTask::Check,
+        FormatMode::Diff => FormatTask::Compare,
+        FormatMode::Rewrite if name == "-" => FormatTask::WriteOut,
+        FormatMode::Rewrite => FormatTask::Replace,
     }
 }
 
 /// Returns a name and a line break.
 fn line_of(alloc: Global, name: &str) -> Result<Vec<u8>, AllocError>
-    ensures { IfOk result (λ line. line.items ≡ name.now ++ 10 ∷ []) }
+    ensures { IfOk result (λ line. line.items ≡ name.now ++ codes "\n") }
 {
     let mut line = String::from_str(alloc, name)?;
     line.push_str("\n")?;
@@ -45,24 +48,26 @@ fn line_of(alloc: Global, name: &str) -> Result<Vec<u8>, AllocError>
 }
 
 /// Shows, compares or replaces an input with its formatted text. Returns the output for the input,
-/// and its status.
+/// which is shown by the name `shown`, and its status.
 #[tactic(auto, unfolding(crate::specs::Formats::Settles))]
 fn settle<P: Replaceable>(
     alloc: Global,
     task: FormatTask,
     inputs: &mut P,
+    shown: &str,
     name: &str,
     bytes: &[u8],
     answer: String,
 ) -> io::Result<(Vec<u8>, u8)>
-    ensures settled { IfOk result (λ output. Settles P.puts task inputs.old inputs.new name.now
-        bytes.now (string_bytes answer) output.0.items output.1) }
+    ensures settled { IfOk result (λ output. Settles P.puts task inputs.old inputs.new shown.now
+        name.now bytes.now (string_bytes answer) output.0.items output.1) }
     ensures kept { IfErr result (λ _. inputs.new ≡ inputs.old) }
 {
     match task {
         FormatTask::WriteOut => Ok((answer.into_bytes(), 0)),
         _ if answer.as_bytes() == bytes => Ok((Vec::new(alloc), 0)),
-        FormatTask::Check => Ok((line_of(alloc, shown_name(name))?, 1)),
+        FormatTask::Check => Ok((line_of(alloc, shown)?, 1)),
+        FormatTask::Compare => Ok((diff_of(alloc, shown, bytes, answer.as_bytes())?, 1)),
         FormatTask::Replace => {
             inputs.replace(alloc, name, answer.as_str())?;
             Ok((Vec::new(alloc), 0))
@@ -76,20 +81,23 @@ fn name_formatted<P: Replaceable>(
     alloc: Global,
     task: FormatTask,
     inputs: &mut P,
+    stdin: &str,
     name: &str,
 ) -> io::Result<Result<(Vec<u8>, u8), Vec<u8>>>
     ensures done { IfOk result (λ done. (bytes : List ℕ) × P.gives inputs.old name.now bytes
         × MatchResult done
         (λ output. (answer : List ℕ) × IsFormatted bytes answer
-        × Settles P.puts task inputs.old inputs.new name.now bytes answer output.0.items output.1)
-        (λ report. ReportsBytes (shown_name name.now) bytes report.items
+        × Settles P.puts task inputs.old inputs.new (shown_name stdin.now name.now) name.now bytes
+        answer output.0.items output.1)
+        (λ report. ReportsBytes (shown_name stdin.now name.now) bytes report.items
         × (inputs.new ≡ inputs.old))) }
     ensures unread { IfErr result (λ _. (P.fails inputs.old name.now
         ⊎ ((bytes : List ℕ) × P.gives inputs.old name.now bytes)) × (inputs.new ≡ inputs.old)) }
 {
     let bytes = inputs.read(alloc, name)?;
-    match bytes_formatted(alloc, shown_name(name), &bytes)? {
-        Ok(answer) => Ok(Ok(settle(alloc, task, inputs, name, &bytes, answer)?)),
+    let shown = shown_name(stdin, name);
+    match bytes_formatted(alloc, shown, &bytes)? {
+        Ok(answer) => Ok(Ok(settle(alloc, task, inputs, shown, name, &bytes, answer)?)),
         Err(report) => Ok(Err(report)),
     }
 }
@@ -101,20 +109,21 @@ fn output_for<P: Replaceable, T: Watcher>(
     alloc: Global,
     task: FormatTask,
     inputs: &mut P,
+    stdin: &str,
     name: &str,
-    watcher: &T,
+    watcher: &mut T,
 ) -> (Vec<u8>, u8)
-    ensures { FormatsName P.gives P.fails P.puts task inputs.old inputs.new name.now result.0.items
-        result.1 }
+    ensures { FormatsName P.gives P.fails P.puts task inputs.old inputs.new stdin.now name.now
+        result.0.items result.1 }
 {
-    match name_formatted(alloc, task, inputs, name) {
+    match name_formatted(alloc, task, inputs, stdin, name) {
         Ok(Ok(output)) => output,
         Ok(Err(report)) => {
             watcher.refused(&report);
             (Vec::new(alloc), 1)
         }
         Err(error) => {
-            watcher.unread(shown_name(name), &error);
+            watcher.unread(shown_name(stdin, name), &error);
             (Vec::new(alloc), 2)
         }
     }
@@ -122,22 +131,24 @@ fn output_for<P: Replaceable, T: Watcher>(
 
 /// The command `fmt`.
 #[derive(Drop)]
-pub(crate) struct Formatting<P> {
-    /// Whether it prints the names of the inputs that would change, and changes none.
-    pub check: bool,
+pub(crate) struct Formatting<'a, P> {
+    pub mode: FormatMode,
     pub inputs: P,
+    /// The name of standard input in reports.
+    pub stdin: &'a str,
 }
 
-impl<P: Replaceable> Work for Formatting<P> {
-    ghost answers = { λ old new name output status. (new.check ≡ old.check)
-        × FormatsName P.gives P.fails P.puts (format_task old.check name) old.inputs new.inputs name
-        output status };
+impl<P: Replaceable> Work for Formatting<'_, P> {
+    ghost answers = { λ old new name output status. (new.mode ≡ old.mode) × (new.stdin ≡ old.stdin)
+        × FormatsName P.gives P.fails P.puts (format_task old.mode name) old.inputs new.inputs
+        old.stdin.now name output status };
 
-    fn work_on<T: Watcher>(&mut self, alloc: Global, name: &str, watcher: &T) -> (Vec<u8>, u8) {
+    fn work_on<T: Watcher>(&mut self, alloc: Global, name: &str, watcher: &mut T) -> (Vec<u8>, u8) {
         output_for(
             alloc,
-            format_task(self.check, name),
+            format_task(self.mode, name),
             &mut self.inputs,
+            self.stdin,
             name,
             watcher,
         )

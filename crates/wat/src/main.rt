@@ -2,66 +2,38 @@
 #![tactic(auto)]
 
 mod command;
+mod diff;
 mod directory;
 mod formatting;
+mod help;
+mod hint;
+mod paint;
 mod reading;
 mod replace;
+mod report;
 mod run;
 mod source;
 mod terminal;
 
-use crate::command::{Command, Message, command_of, inputs_of, is_option};
+use crate::command::{
+    Color, Command, Message, check_task, command_of, inputs_of, is_option, joined, stdin_name,
+    takes_value,
+};
 use crate::directory::{Found, Wanted, inputs_found};
 use crate::formatting::Formatting;
-use crate::reading::Reading;
+use crate::help::{USAGE, help_of};
+use crate::hint::meant_command;
+use crate::reading::{Options, Reading};
 use crate::run::{Work, run};
 use crate::source::SystemInputs;
 use crate::terminal::Terminal;
 use std::alloc::AllocError;
-use std::io::Write;
+use std::io::{IsTerminal, Write};
 use std::process::ExitCode;
 use std::rt::Env;
 use std::{env, io};
 use wat_answers::{Task, VERSION};
 use wat_show::Watched;
-
-/// The usage.
-const USAGE: &str = "\
-usage: wat check [--json] [FILE..]
-       wat list FILE
-       wat print [--line] [FILE]
-       wat fmt [--check] [FILE..]
-       wat --help
-       wat --version
-";
-
-/// The rest of the help, after the usage.
-const HELP: &str = "
-wat check parses each file as one module of the WebAssembly text format, `(module ..)`
-with its parentheses. For a module it prints nothing. Otherwise it prints the position
-and the reason of each error, and with --json a JSON object for each, on one line. It
-doesn't validate: types and indices aren't checked.
-wat list prints the contents of a module, one field or instruction per line.
-wat print prints a module as a text that parses back to the same module. Instructions
-are flat, one per line, or with --line all on one line. Comments are lost.
-wat fmt formats each file in place. It changes white space outside tokens and comments
-only, and takes any text with valid tokens. A file is replaced atomically. With --check
-it prints the name of each input that would change, and changes nothing.
-
-Without a FILE, and for the FILE -, a command reads standard input. wat fmt prints the
-formatted text of standard input.
-A directory means the files below it, at any depth, in the order of their paths:
-*.wat for wat check, *.wat and *.wast for wat fmt. Symbolic links in it are left out.
-Options come before or after the files. After -- every argument is a file, also one
-that begins with -.
-
-Results go to standard output. Errors about files, arguments and output go to standard
-error, and so does the reason why a text can't be printed or formatted.
-Exit status: 0 if every input is a module, and for wat fmt if every input is formatted;
-1 if some input isn't a module, for wat fmt if some input has an invalid token or, with
---check, would change; 2 for anything else: a file that can't be read or replaced,
-output that can't be written, no memory, wrong arguments.
-";
 
 const NO_MEMORY: &str = "wat: memory ran out\n";
 
@@ -88,6 +60,20 @@ fn refuse(rt: &HostRuntime, reason: &str, word: &str) -> ExitCode {
     ExitCode::from(2)
 }
 
+/// Prints that a command is unknown, which command may be meant, and the usage, on standard error.
+/// Returns status 2.
+fn refuse_command(rt: &HostRuntime, word: &str) -> ExitCode {
+    match meant_command(rt.alloc(), word) {
+        Ok(Some(meant)) => {
+            let _ = eprint!(rt;
+                "wat: unknown command {word}\nhint: did you mean `{meant}`?\n{USAGE}"
+            );
+            ExitCode::from(2)
+        }
+        _ => refuse(rt, "unknown command ", word),
+    }
+}
+
 /// Prints two texts on standard output.
 fn print(rt: &HostRuntime, text: &str, more: &str) -> ExitCode {
     match print!(rt; "{text}{more}") {
@@ -104,14 +90,15 @@ fn print_message(rt: &HostRuntime, message: Message, words: &[String]) -> ExitCo
     };
     let word = words.get(index).map_or("", |word| word.as_str());
     match message {
-        Message::Help => print(rt, USAGE, HELP),
+        Message::Help(topic) => {
+            let (text, more) = help_of(topic);
+            print(rt, text, more)
+        }
         Message::Version => print(rt, VERSION, "\n"),
         Message::NoCommand => refuse(rt, "no command", ""),
-        Message::UnknownCommand if !is_option(word) => refuse(rt, "unknown command ", word),
-        Message::UnknownCommand => refuse(rt, "unknown option ", word),
-        Message::UnknownOption(_) => refuse(rt, "unknown option ", word),
-        Message::ListFiles => refuse(rt, "list takes one file", ""),
-        Message::PrintFiles => refuse(rt, "print takes at most one file", ""),
+        Message::UnknownCommand if !is_option(word) => refuse_command(rt, word),
+        Message::UnknownOption(_) if takes_value(word) => refuse(rt, "no value after ", word),
+        Message::UnknownCommand | Message::UnknownOption(_) => refuse(rt, "unknown option ", word),
     }
 }
 
@@ -126,8 +113,10 @@ fn work_on<J: Work + Drop>(
     let mut writer = Watched::new(rt.stdout());
     match run(rt.alloc(), &mut work, &found.names, &mut writer, watcher) {
         Ok(status) => match writer.flush() {
-            Ok(()) if found.is_whole => ExitCode::from(status),
-            Ok(()) => ExitCode::from(2),
+            Ok(()) => {
+                watcher.end(found.names.len());
+                ExitCode::from(if found.is_whole { status } else { 2 })
+            }
             Err(_) => fail(rt, CANNOT_WRITE),
         },
         Err(_) => fail(rt, CANNOT_WRITE),
@@ -143,32 +132,61 @@ fn find_inputs(
 ) -> Result<Found, AllocError> {
     let names = inputs_of(rt.alloc(), words)?;
     match command {
-        Command::Read(Task::Check | Task::Json) => inputs_found(rt, Wanted::Wat, names, watcher),
-        Command::Read(_) => Ok(Found {
+        Command::Checks(_) => inputs_found(rt, Wanted::Wat, names, watcher),
+        Command::Lists | Command::Prints(_) => Ok(Found {
             names,
             is_whole: true,
         }),
-        Command::Format(_) => inputs_found(rt, Wanted::WatAndWast, names, watcher),
+        Command::Formats(_) => inputs_found(rt, Wanted::WatAndWast, names, watcher),
+    }
+}
+
+/// Returns whether a command's reports have colors.
+fn has_colors(rt: &HostRuntime, command: Command) -> bool {
+    let Command::Checks(options) = command else {
+        return false;
+    };
+    match options.color {
+        Color::Always => true,
+        Color::Never => false,
+        Color::Auto => {
+            rt.stdout().is_terminal()
+                && env::var(rt, "NO_COLOR").map_or(true, |value| value.is_empty())
+        }
     }
 }
 
 /// Runs a command with the arguments after it.
 fn run_command(rt: &HostRuntime, command: Command, words: &[String]) -> ExitCode {
+    let stdin = stdin_name(words);
     let mut watcher = Terminal::new(rt);
     let found = match find_inputs(rt, command, words, &watcher) {
         Ok(found) => found,
         Err(AllocError) => return fail(rt, NO_MEMORY),
     };
-    match command {
-        Command::Read(task) => {
-            let sources = SystemInputs { rt };
-            work_on(rt, Reading { task, sources }, &found, &mut watcher)
+    let sources = SystemInputs { rt };
+    let task = match command {
+        Command::Checks(options) => check_task(options),
+        Command::Lists => Task::Listing,
+        Command::Prints(layout) => Task::Print(layout),
+        Command::Formats(mode) => {
+            let inputs = sources;
+            let work = Formatting {
+                mode,
+                inputs,
+                stdin,
+            };
+            return work_on(rt, work, &found, &mut watcher);
         }
-        Command::Format(check) => {
-            let inputs = SystemInputs { rt };
-            work_on(rt, Formatting { check, inputs }, &found, &mut watcher)
-        }
-    }
+    };
+    let color = has_colors(rt, command);
+    let options = Options { task, color };
+    let work = Reading {
+        options,
+        sources,
+        stdin,
+    };
+    work_on(rt, work, &found, &mut watcher)
 }
 
 fn main(rt: HostRuntime) -> ExitCode {
@@ -176,6 +194,10 @@ fn main(rt: HostRuntime) -> ExitCode {
         Ok(words) => words,
         Err(error) if error.kind() == io::ErrorKind::OutOfMemory => return fail(&rt, NO_MEMORY),
         Err(_) => return fail(&rt, "wat: an argument isn't UTF-8\n"),
+    };
+    let words = match joined(rt.alloc(), &words) {
+        Ok(words) => words,
+        Err(AllocError) => return fail(&rt, NO_MEMORY),
     };
     match command_of(&words) {
         Ok(command) => run_command(&rt, command, words.get(1..).unwrap_or(&[])),

@@ -22,6 +22,9 @@ pub(crate) trait Watcher {
     /// The report of an input that can't be printed or formatted: whole lines.
     fn refused(&self, report: &[u8]);
 
+    /// The report of a check of the input that reports call by that name: it is empty for a module.
+    fn checked(&mut self, name: &str, report: &[u8]);
+
     /// `count` of `all` inputs are done.
     fn done(&mut self, count: usize, all: usize);
 }
@@ -34,7 +37,7 @@ pub(crate) trait Work {
 
     /// Does the work on an input. Returns what is to be written for it, and its status. The watcher
     /// gets everything else.
-    fn work_on<T: Watcher>(&mut self, alloc: Global, name: &str, watcher: &T) -> (Vec<u8>, u8)
+    fn work_on<T: Watcher>(&mut self, alloc: Global, name: &str, watcher: &mut T) -> (Vec<u8>, u8)
         ensures { answers self.old self.new name.now result.0.items result.1 };
 }
 
@@ -44,7 +47,7 @@ fn run_on<J: Work, W: Write, T: Watcher>(
     work: &mut J,
     name: &str,
     writer: &mut Watched<W>,
-    watcher: &T,
+    watcher: &mut T,
 ) -> Result<u8, RunError>
     ensures all { IfOk result (λ status. (output : List ℕ)
         × J.answers work.old work.new name.now output status

@@ -10,13 +10,13 @@ use std::io;
 use std::io::{Input, Read};
 use std::rt::Files;
 
-/// Returns the name of an input as reports and lists show it: `<stdin>` for `-`, which is standard
+/// Returns the name of an input as reports and lists show it: `stdin` for `-`, which is standard
 /// input, and otherwise the name itself.
 #[tactic(auto, unfolding(crate::specs::Inputs::shown_name))]
-pub(crate) fn shown_name(name: &str) -> &str
-    ensures { result.now ≡ shown_name name.now }
+pub(crate) fn shown_name<'a>(stdin: &'a str, name: &'a str) -> &'a str
+    ensures { result.now ≡ shown_name stdin.now name.now }
 {
-    if name == "-" { "<stdin>" } else { name }
+    if name == "-" { stdin } else { name }
 }
 
 /// Inputs that can be read, by their names.

@@ -1,6 +1,7 @@
 //! Messages on standard error.
 
 use crate::directory::Wanted;
+use crate::report::error_count;
 use crate::run::Watcher;
 use std::io;
 use std::io::{IsTerminal, Write};
@@ -16,6 +17,10 @@ pub(crate) struct Terminal<'a> {
     rt: &'a HostRuntime,
     /// When progress was last shown. None: it is never shown.
     last_progress: Option<Instant>,
+    /// The number of errors in reports of checks.
+    errors: usize,
+    /// The number of inputs with errors.
+    invalid: usize,
 }
 
 impl<'a> Terminal<'a> {
@@ -26,7 +31,24 @@ impl<'a> Terminal<'a> {
         } else {
             None
         };
-        Terminal { rt, last_progress }
+        Terminal {
+            rt,
+            last_progress,
+            errors: 0,
+            invalid: 0,
+        }
+    }
+
+    /// Prints how many errors the reports of `all` inputs have, if there are several errors, or an
+    /// error and several inputs.
+    pub fn end(&self, all: usize) {
+        let (errors, invalid) = (self.errors, self.invalid);
+        let _ = match (errors, all) {
+            (0, _) | (1, 1) => Ok(()),
+            (_, 1) => eprintln!(self.rt; "{errors} errors in 1 file"),
+            (1, _) => eprintln!(self.rt; "1 error in 1 of {all} files"),
+            _ => eprintln!(self.rt; "{errors} errors in {invalid} of {all} files"),
+        };
     }
 }
 
@@ -51,6 +73,14 @@ impl Watcher for Terminal<'_> {
 
     fn refused(&self, report: &[u8]) {
         let _ = self.rt.stderr().write_all(report);
+    }
+
+    fn checked(&mut self, name: &str, report: &[u8]) {
+        let errors = error_count(name, report);
+        self.errors = self.errors.saturating_add(errors);
+        if errors > 0 {
+            self.invalid = self.invalid.saturating_add(1);
+        }
     }
 
     fn done(&mut self, count: usize, all: usize) {

@@ -1,5 +1,5 @@
 -- Refusals, and printed modules.
-use Rattle.std.proofs.Common.{◌≡◌, ℕ, List, [], ◌∷◌, ◌++◌, ◌∙◌, Ok, Err, inr, true, ◌≢◌, Result, IfOk, IfErr, MatchResult}
+use Rattle.std.proofs.Common.{◌≡◌, ℕ, List, [], ◌∷◌, ◌++◌, ◌∙◌, codes, Ok, Err, inr, true, ◌≢◌, Result, IfOk, IfErr, MatchResult}
 use Rattle.wat_report.specs.Prelude.{tokens_of, IsReport}
 use Rattle.wat_print_module.specs.Prelude.{Fault, Memory, paren, ModuleModel, module_, SpellsModule, NoneSpells, printed_text, Layout, Line, spell_module_group}
 use Rattle.wat_answers.specs.Outcomes.{IsAnswer, AnswersText, WasRead}
@@ -19,7 +19,7 @@ unfolding AnswersText
 answers_fault task name text f offset output status (Ok x) none other is one = inr (none other, (f, offset, other, is), one)
 answers_fault task name text f offset output status (Err e) none other is one = tt
 
-pub answers_print : (layout : Layout) (m : ModuleModel) (text new output : List ℕ) → SpellsModule text m → (layout ≡ Line → text ≡ printed_text (spell_module_group m)) → new ≡ text ++ 10 ∷ [] → output ≡ new → IsAnswer (Print layout) m output
+pub answers_print : (layout : Layout) (m : ModuleModel) (text new output : List ℕ) → SpellsModule text m → (layout ≡ Line → text ≡ printed_text (spell_module_group m)) → new ≡ text ++ codes "\n" → output ≡ new → IsAnswer (Print layout) m output
 unfolding IsAnswer
 answers_print layout m text new output spells line added is = (text, spells, line, is ∙ added)
 

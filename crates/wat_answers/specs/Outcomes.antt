@@ -1,7 +1,8 @@
 -- The answers for a text.
-use Rattle.std.specs.Prelude.{◌≡◌, ◌≢◌, ◌⊎◌, ◌∷◌, ◌++◌, ℕ, List, [], flat_map}
+use Rattle.std.specs.Prelude.{◌≡◌, ◌≢◌, ◌⊎◌, ◌++◌, ℕ, List, [], codes, flat_map}
 use Rattle.wat_print_module.specs.Prelude.{IsUtf8, Fault, Memory, ModuleModel, SpellsModule, printed_text, Line, spell_module_group}
 use Rattle.wat_answers.specs.declared.notice.Notice.{Notice}
+use Rattle.wat_answers.specs.declared.task.Extent.{Extent}
 use Rattle.wat_answers.specs.declared.task.Task.{Task}
 use Rattle.wat_answers.specs.declared.task.Task.TheVariants.{Check, Json, Listing, Print}
 use Rattle.wat_report.specs.Report.{IsReport}
@@ -13,12 +14,12 @@ use Rattle.wat_answers.specs.Notices.{notice_json, notice_report}
 -- The answer for a module: no output; the listing of `watshow module`; or a text that spells the module,
 -- and a line break. In the layout Line, the text is the text of the tokens of the module.
 unfoldable pub IsAnswer : Task → ModuleModel → List ℕ → Type 0
-IsAnswer Check m output = output ≡ []
-IsAnswer Json m output = output ≡ []
+IsAnswer (Check extent) m output = output ≡ []
+IsAnswer (Json extent) m output = output ≡ []
 IsAnswer Listing m output = output ≡ module_text m
 IsAnswer (Print layout) m output =
     (text : List ℕ) × SpellsModule text m
-    × (layout ≡ Line → text ≡ printed_text (spell_module_group m)) × (output ≡ text ++ 10 ∷ [])
+    × (layout ≡ Line → text ≡ printed_text (spell_module_group m)) × (output ≡ text ++ codes "\n")
 
 -- a text spells the module
 abbrev pub WasRead : ModuleModel → Type 0
@@ -49,15 +50,17 @@ AnswersReadBytes task name bytes output status =
     ⊎ (ReportsWrongByte name bytes output × (status ≡ 1))
 
 -- the answer of a check: its notices, written one after the other
-abbrev pub AnswersFound : (Notice → List ℕ) → List ℕ → List ℕ → ℕ → Type 0
-AnswersFound written bytes output status =
-    (ns : List Notice) × ChecksBytes bytes ns status × (output ≡ flat_map written ns)
+abbrev pub AnswersFound : (Notice → List ℕ) → Extent → List ℕ → List ℕ → ℕ → Type 0
+AnswersFound written extent bytes output status =
+    (ns : List Notice) × ChecksBytes extent bytes ns status × (output ≡ flat_map written ns)
 
 -- The tasks Check and Json check the text and return its notices. The other tasks read the text itself, not
 -- its masked text, and list or print the module.
 unfoldable pub AnswersBytes : Task → List ℕ → List ℕ → List ℕ → ℕ → Type 0
-AnswersBytes Check name bytes output status = AnswersFound (notice_report name) bytes output status
-AnswersBytes Json name bytes output status = AnswersFound (notice_json name) bytes output status
+AnswersBytes (Check extent) name bytes output status =
+    AnswersFound (notice_report name) extent bytes output status
+AnswersBytes (Json extent) name bytes output status =
+    AnswersFound (notice_json name) extent bytes output status
 AnswersBytes Listing name bytes output status = AnswersReadBytes Listing name bytes output status
 AnswersBytes (Print layout) name bytes output status =
     AnswersReadBytes (Print layout) name bytes output status

@@ -10,5 +10,5 @@ pub use Rattle.wat_show.specs.Prelude.{length-map, Appends, AppendsBeginning}
 unfoldable pub use Rattle.wat_answers.specs.Checked.{ChecksBytes}
 pub use Rattle.wat_answers.specs.Formatted.{IsFormatted}
 unfoldable pub use Rattle.wat_answers.specs.Formatted.{ReportsBytes}
-pub use Rattle.wat_answers.specs.Notices.{more_words}
+pub use Rattle.wat_answers.specs.Notices.{further_words, more_words}
 unfoldable pub use Rattle.wat_answers.specs.Outcomes.{AnswersBytes}

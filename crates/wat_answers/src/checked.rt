@@ -4,12 +4,14 @@ ghost use Rattle.std.specs.Prelude.{◌≡◌, ◌++◌, ◌∷◌, [], List, If
 ghost use Rattle.wat_core.specs.View.{AreSkips};
 ghost use Rattle.wat_answers.specs.Prelude.{ModuleModel, SpellsModule};
 ghost use Rattle.wat_masked.specs.Prelude.{option_to_list, FirstFault, IsCut, offset_of, Placed, IfFault, placed};
-ghost use Rattle.wat_answers.specs.Checked.{AddsDiagnosed, AddsFound, AreNotices, ChecksBytes, ChecksText, ChecksMasked, FindsFaults, FindsUncut, IsDiagnosticOf, beside_of, has_error_at, lead_of, may_expect, more_notices};
+ghost use Rattle.wat_answers.specs.Checked.{AddsDiagnosed, AddsFound, AreNotices, ChecksBytes, ChecksModule, ChecksText, ChecksMasked, FindsFaults, FindsUncut, IsDiagnosticOf, beside_of, has_error_at, lead_of, may_expect, more_notices};
 ghost use Rattle.wat_answers.specs.declared.notice.Notice.TheVariants.{Found};
 
 use crate::expected::expected_at;
+use crate::named::checked_module;
 use crate::notice::Notice;
-use crate::reading::{module_of, module_of_tokens};
+use crate::reading::module_of_tokens;
+use crate::task::Extent;
 use bumpalo::Bump;
 use std::alloc::{AllocError, Global};
 use wat_core::wat_lexer::cut::cut;
@@ -18,8 +20,8 @@ use wat_core::{Error, Fault, FieldFaults, module_faults};
 use wat_masked::masked::masked_if_changed;
 use wat_report::{Diagnostic, diagnostic_in, diagnostic_of, text_or_diagnostic};
 
-/// The number of invalid fields whose errors are reported.
-const MOST: usize = 20;
+/// The number of invalid fields, or of errors in names, blocks and imports, that are reported.
+pub(crate) const MOST: usize = 20;
 
 /// Returns whether one of the errors is at the offset.
 #[tactic(auto, using(crate::proofs::Found::no_error_at))]
@@ -91,7 +93,7 @@ fn add_error(
     error: Error,
 ) -> Result<(), AllocError>
     requires { IsCut text.now (placed tokens.now) }
-    ensures { OnOk result (AddsFound text.now error notices.old.items notices.new.items) }
+    ensures { OnOk result (AddsFound (IsDiagnosticOf text.now) error notices.old.items notices.new.items) }
 {
     let alloc = *notices.allocator();
     let diagnostic = diagnostic_with_expected(alloc, text, tokens, read, error)?;
@@ -109,7 +111,7 @@ fn add_optional(
     error: Option<Error>,
 ) -> Result<(), AllocError>
     requires { IsCut text.now (placed tokens.now) }
-    ensures { OnOk result (AddsDiagnosed text.now (option_to_list error) notices.old.items
+    ensures { OnOk result (AddsDiagnosed (IsDiagnosticOf text.now) (option_to_list error) notices.old.items
         notices.new.items) }
 {
     match error {
@@ -128,7 +130,7 @@ fn add_errors(
     errors: &[Error],
 ) -> Result<(), AllocError>
     requires { IsCut text.now (placed tokens.now) }
-    ensures { OnOk result (AddsDiagnosed text.now errors.now notices.old.items
+    ensures { OnOk result (AddsDiagnosed (IsDiagnosticOf text.now) errors.now notices.old.items
         notices.new.items) }
 {
     for error in errors {
@@ -221,6 +223,7 @@ fn notices_of_first(
 /// `first` is the first error of the masked text.
 fn notices_of_error(
     alloc: Global,
+    extent: Extent,
     text: &str,
     read: &str,
     first: Error,
@@ -228,7 +231,7 @@ fn notices_of_error(
     requires text { (ts : List Placed) × IsCut text.now ts }
     requires cut { (ts : List Placed) × IsCut read.now ts }
     requires none { IfFault first ((m : ModuleModel) → SpellsModule read.now m → ⊥) }
-    ensures { IfOk result (λ found. ChecksMasked text.now read.now found.0.items found.1) }
+    ensures { IfOk result (λ found. ChecksMasked extent text.now read.now found.0.items found.1) }
 {
     match first.fault {
         Fault::Memory => Err(AllocError),
@@ -236,32 +239,44 @@ fn notices_of_error(
     }
 }
 
-/// Returns the notices for a text with this masked text, and the status.
-fn notices_of_masked(alloc: Global, text: &str, read: &str) -> Result<(Vec<Notice>, u8), AllocError>
+/// Returns the notices for a text with this masked text, which has these tokens, and the status.
+fn notices_of_cut(
+    alloc: Global,
+    extent: Extent,
+    text: &str,
+    read: &str,
+    tokens: Tokens,
+) -> Result<(Vec<Notice>, u8), AllocError>
     requires text { (ts : List Placed) × IsCut text.now ts }
-    requires cut { (ts : List Placed) × IsCut read.now ts }
-    ensures { IfOk result (λ found. ChecksMasked text.now read.now found.0.items found.1) }
+    requires cut { IsCut read.now (placed tokens) }
+    requires skips { AreSkips tokens }
+    ensures { IfOk result (λ found. ChecksMasked extent text.now read.now found.0.items found.1) }
 {
-    let arena = Bump::new(alloc);
-    match module_of(alloc, read, &arena) {
-        Ok(_) => Ok((Vec::new(alloc), 0)),
-        Err(first) => notices_of_error(alloc, text, read, first),
+    match module_of_tokens(alloc, read, tokens) {
+        Ok(module) => checked_module(alloc, extent, text, &module),
+        Err(first) => notices_of_error(alloc, extent, text, read, first),
     }
 }
 
-/// Returns the notices for a text that is its own masked text, and the status.
-fn notices_of_unmasked(
+/// Returns the notices for a text with this masked text, and the status.
+fn notices_of_masked(
     alloc: Global,
+    extent: Extent,
     text: &str,
-    tokens: Tokens,
+    read: &str,
 ) -> Result<(Vec<Notice>, u8), AllocError>
-    requires cut { IsCut text.now (placed tokens) }
-    requires skips { AreSkips tokens }
-    ensures { IfOk result (λ found. ChecksMasked text.now text.now found.0.items found.1) }
+    requires text { (ts : List Placed) × IsCut text.now ts }
+    requires cut { (ts : List Placed) × IsCut read.now ts }
+    ensures { IfOk result (λ found. ChecksMasked extent text.now read.now found.0.items found.1) }
 {
-    match module_of_tokens(alloc, text, tokens) {
-        Ok(_) => Ok((Vec::new(alloc), 0)),
-        Err(first) => notices_of_error(alloc, text, text, first),
+    let arena = Bump::new(alloc);
+    match cut(alloc, read, &arena) {
+        Ok(tokens) => notices_of_cut(alloc, extent, text, read, tokens),
+        Err(error) => match error.fault {
+            Fault::Memory => Err(AllocError),
+            // (the masked text has a cut)
+            _ => unreachable!(),
+        },
     }
 }
 
@@ -297,41 +312,49 @@ fn notices_of_uncut(
 /// Returns the notices for a text with these tokens, and the status.
 fn notices_of_tokens(
     alloc: Global,
+    extent: Extent,
     text: &str,
     tokens: Tokens,
 ) -> Result<(Vec<Notice>, u8), AllocError>
     requires cut { IsCut text.now (placed tokens) }
     requires skips { AreSkips tokens }
-    ensures { IfOk result (λ found. ChecksText text.now found.0.items found.1) }
+    ensures { IfOk result (λ found. ChecksText extent text.now found.0.items found.1) }
 {
     match masked_if_changed(alloc, text, &tokens)? {
         Some(read) => {
             drop(tokens);
-            notices_of_masked(alloc, text, read.as_str())
+            notices_of_masked(alloc, extent, text, read.as_str())
         }
-        None => notices_of_unmasked(alloc, text, tokens),
+        None => notices_of_cut(alloc, extent, text, text, tokens),
     }
 }
 
-/// Returns the notices for a text, and the status: 0 and no notices if its masked text is a module,
-/// else 1.
+/// Returns the notices for a text, and the status.
 #[tactic(auto, unfolding(crate::specs::Checked::ChecksText))]
-fn notices_of_text(alloc: Global, text: &str) -> Result<(Vec<Notice>, u8), AllocError>
-    ensures { IfOk result (λ found. ChecksText text.now found.0.items found.1) }
+fn notices_of_text(
+    alloc: Global,
+    extent: Extent,
+    text: &str,
+) -> Result<(Vec<Notice>, u8), AllocError>
+    ensures { IfOk result (λ found. ChecksText extent text.now found.0.items found.1) }
 {
     let arena = Bump::new(alloc);
     match cut(alloc, text, &arena) {
-        Ok(tokens) => notices_of_tokens(alloc, text, tokens),
+        Ok(tokens) => notices_of_tokens(alloc, extent, text, tokens),
         Err(error) => notices_of_uncut(alloc, text, error),
     }
 }
 
 /// Checks bytes. Returns the notices and the status.
 ///
-/// If the bytes are the text of a module, the status is 0 and there are no notices. A float literal
-/// is checked by its spelling only. Otherwise the status is 1. If the bytes aren't UTF-8, the notice
-/// is the first wrong byte. If the text has invalid tokens, the notice is the first error of the
-/// text. Otherwise the notices are, in order:
+/// If the bytes are the text of a module, the notices are, with [`Extent::Names`], the first 20
+/// errors of its names, blocks and imports, in the order of the text, and the number of further
+/// errors, if there are any. The status is 0 if there is no notice. A float literal is checked by
+/// its spelling only.
+///
+/// Otherwise the status is 1. If the bytes aren't UTF-8, the notice is the first wrong byte. If the
+/// text has invalid tokens, the notice is the first error of the text. Otherwise the notices are, in
+/// order:
 ///
 /// - the first error of the text, unless it is the error of a field;
 /// - an error in each of the first 20 invalid fields;
@@ -340,11 +363,15 @@ fn notices_of_text(alloc: Global, text: &str) -> Result<(Vec<Notice>, u8), Alloc
 ///
 /// The error is AllocError if memory runs out.
 #[tactic(auto, unfolding(crate::specs::Checked::ChecksBytes))]
-pub fn checked_bytes(alloc: Global, bytes: &[u8]) -> Result<(Vec<Notice>, u8), AllocError>
-    ensures { IfOk result (λ found. ChecksBytes bytes.now found.0.items found.1) }
+pub fn checked_bytes(
+    alloc: Global,
+    extent: Extent,
+    bytes: &[u8],
+) -> Result<(Vec<Notice>, u8), AllocError>
+    ensures { IfOk result (λ found. ChecksBytes extent bytes.now found.0.items found.1) }
 {
     match text_or_diagnostic(alloc, bytes)? {
-        Ok(text) => notices_of_text(alloc, text),
+        Ok(text) => notices_of_text(alloc, extent, text),
         Err(diagnostic) => Ok((one_notice(alloc, diagnostic)?, 1)),
     }
 }

@@ -5,16 +5,17 @@
 //! no contract describes the position of a fault.
 
 use crate::reading::module_of;
-use crate::shortened::short_text;
+use crate::shortened::{short_text, word_at};
 use crate::words::INNER_WORDS;
 use bumpalo::Bump;
 use std::alloc::{AllocError, Global};
 use wat_core::wat_lexer::tokens::Tokens;
-use wat_core::{Error, Fault, module_faults};
+use wat_core::wat_mnemonics::table::OPS;
+use wat_core::{Error, Fault, Token, module_faults};
 use wat_report::FIELD_WORDS;
 
 /// A kind of token as a candidate. Words that begin a group aren't kinds.
-#[derive(Clone, Copy)]
+#[derive(Clone, Copy, PartialEq, Eq)]
 enum Kind {
     Open,
     Close,
@@ -24,9 +25,11 @@ enum Kind {
     ValueType,
     ReferenceType,
     Instruction,
+    /// The word `binary`, after which the pieces of a binary module follow.
+    Binary,
 }
 
-const KINDS: [Kind; 8] = [
+const KINDS: [Kind; 9] = [
     Kind::Open,
     Kind::Close,
     Kind::Identifier,
@@ -35,6 +38,7 @@ const KINDS: [Kind; 8] = [
     Kind::ValueType,
     Kind::ReferenceType,
     Kind::Instruction,
+    Kind::Binary,
 ];
 
 impl Kind {
@@ -49,6 +53,7 @@ impl Kind {
             Kind::ValueType => "a value type",
             Kind::ReferenceType => "a reference type",
             Kind::Instruction => "an instruction",
+            Kind::Binary => "`binary`",
         }
     }
 
@@ -63,6 +68,7 @@ impl Kind {
             Kind::ValueType => "i32",
             Kind::ReferenceType => "funcref",
             Kind::Instruction => "nop",
+            Kind::Binary => "binary",
         }
     }
 }
@@ -167,6 +173,55 @@ struct Front {
     behind_paren: bool,
 }
 
+/// The token with the error.
+#[derive(Clone, Copy)]
+struct Refused<'a> {
+    /// Its kind, if it has one.
+    kind: Option<Kind>,
+    /// The word, or the word after the token if that is a `(`; otherwise the empty word.
+    word: &'a str,
+}
+
+/// Returns the kind of a word.
+fn kind_of_word(word: &str) -> Option<Kind> {
+    match word {
+        "i32" | "i64" | "f32" | "f64" | "v128" => Some(Kind::ValueType),
+        "binary" => Some(Kind::Binary),
+        _ if OPS.iter().any(|op| op.word() == word) => Some(Kind::Instruction),
+        _ => None,
+    }
+}
+
+/// Returns the kind of the token at an index, if there is one.
+fn kind_at(tokens: &Tokens, index: usize) -> Option<Kind> {
+    if index >= tokens.len() {
+        return None;
+    }
+    match tokens.token(index) {
+        Token::LParen => Some(Kind::Open),
+        Token::RParen => Some(Kind::Close),
+        Token::Id(_) => Some(Kind::Identifier),
+        Token::Integer(_) => Some(Kind::Integer),
+        Token::String(_) => Some(Kind::String),
+        Token::Keyword(word) => kind_of_word(word),
+        _ => None,
+    }
+}
+
+/// Returns the token at an index, which has the error.
+fn refused_at<'a>(tokens: &Tokens<'a>, index: usize) -> Refused<'a> {
+    let kind = kind_at(tokens, index);
+    let word = if kind == Some(Kind::Open) {
+        index.saturating_add(1)
+    } else {
+        index
+    };
+    Refused {
+        kind,
+        word: word_at(tokens, word),
+    }
+}
+
 /// Returns the text up to an error in the field that begins at an offset.
 fn field_front(alloc: Global, text: &str, from: usize) -> Result<String, AllocError> {
     format!(in alloc; "(module {}", text.get(from..).unwrap_or(""))
@@ -222,15 +277,15 @@ fn in_no_field(alloc: Global, text: &str, opened: Opened) -> Result<Option<Strin
 }
 
 /// Returns the text up to the error at an offset, unless the error is after the module or in the
-/// group of an annotation.
+/// group of an annotation. `opened` are the groups that are open there.
 fn front_of(
     alloc: Global,
     read: &str,
     tokens: &Tokens,
     at: usize,
+    opened: Opened,
 ) -> Result<Option<Front>, AllocError> {
     let text = read.get(..at).unwrap_or("");
-    let opened = opened_at(tokens, at);
     let is_behind = opened.depth == 0 && opened.first_field.is_some();
     if is_behind || opened.annotation.is_some() {
         return Ok(None);
@@ -298,38 +353,55 @@ fn add_item(list: &mut String, item: &str) -> Result<(), AllocError> {
     list.push_str(item)
 }
 
-/// Adds the candidates that are possible after the text, without words. A reference type isn't added
-/// if a value type is added.
-fn add_kinds(list: &mut String, front: &Front) -> Result<(), AllocError> {
+/// Adds the candidates that are possible after the text, without words and without the refused
+/// kind. A reference type isn't added if a value type is added.
+fn add_kinds(list: &mut String, front: &Front, refused: Option<Kind>) -> Result<(), AllocError> {
     for kind in KINDS {
-        let is_named = matches!(kind, Kind::ReferenceType)
-            && list.as_str().ends_with("a value type");
-        if !is_named && goes_on(*list.allocator(), front, kind.one())? {
+        let is_named = kind == Kind::ReferenceType && list.as_str().ends_with("a value type");
+        if !is_named && refused != Some(kind) && goes_on(*list.allocator(), front, kind.one())? {
             add_item(list, kind.name())?;
         }
     }
     Ok(())
 }
 
+/// Returns what completes a group that begins with the word, if more than its word tells it from
+/// another group: an inline import or export.
+fn rest_of_group(front: &Front, word: &str) -> &'static str {
+    match word {
+        "import" if front.in_field => " \"\" \"\")",
+        "export" if front.in_field => " \"\")",
+        _ => "",
+    }
+}
+
 /// Adds the word if the word can begin a group after the text, or continue the group that is begun.
 fn add_word(list: &mut String, front: &Front, word: &str) -> Result<(), AllocError> {
     let alloc = *list.allocator();
     let open = if front.behind_paren { "" } else { "(" };
-    let begun = format!(in alloc; "{open}{word}")?;
-    if goes_on(alloc, front, &begun)? {
-        add_item(list, format!(in alloc; "`{begun}`")?.as_str())?;
+    let rest = rest_of_group(front, word);
+    let tried = format!(in alloc; "{open}{word}{rest}")?;
+    if goes_on(alloc, front, &tried)? {
+        add_item(list, format!(in alloc; "`{open}{word}`")?.as_str())?;
     }
     Ok(())
 }
 
-/// Adds the words that can begin a group after the text, or continue the group that is begun.
-fn add_words(list: &mut String, front: &Front) -> Result<(), AllocError> {
-    add_word(list, front, "module")?;
+/// Adds the words that can begin a group after the text, or continue the group that is begun,
+/// without the refused word.
+fn add_words(list: &mut String, front: &Front, refused: &str) -> Result<(), AllocError> {
+    if refused != "module" {
+        add_word(list, front, "module")?;
+    }
     for field in FIELD_WORDS {
-        add_word(list, front, field.word())?;
+        if field.word() != refused {
+            add_word(list, front, field.word())?;
+        }
     }
     for word in INNER_WORDS {
-        add_word(list, front, word)?;
+        if word != refused {
+            add_word(list, front, word)?;
+        }
     }
     Ok(())
 }
@@ -344,9 +416,11 @@ pub(crate) fn expected_at(
     at: usize,
 ) -> Result<Vec<u8>, AllocError> {
     let mut list = String::new(alloc);
-    if let Some(front) = front_of(alloc, read, tokens, at)? {
-        add_kinds(&mut list, &front)?;
-        add_words(&mut list, &front)?;
+    let opened = opened_at(tokens, at);
+    if let Some(front) = front_of(alloc, read, tokens, at, opened)? {
+        let refused = refused_at(tokens, opened.count);
+        add_kinds(&mut list, &front, refused.kind)?;
+        add_words(&mut list, &front, refused.word)?;
     }
     Ok(list.into_bytes())
 }

@@ -10,6 +10,7 @@
 pub mod checked;
 mod expected;
 mod formatted;
+mod named;
 pub mod notice;
 mod outcome;
 mod reading;
@@ -19,9 +20,9 @@ mod words;
 
 pub use checked::checked_bytes;
 pub use formatted::bytes_formatted;
-pub use notice::{Notice, add_more_words};
+pub use notice::{Notice, add_further_words, add_more_words};
 pub use outcome::answer_for;
-pub use task::Task;
+pub use task::{Extent, Task};
 
 /// The version of the program `wat` and of the library for C, as both print it.
 pub const VERSION: &str = "wat 0.1.0, a port of wast 263.0.0";

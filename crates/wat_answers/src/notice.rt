@@ -1,7 +1,7 @@
 //! The notices of a check.
 
 ghost use Rattle.std.specs.Prelude.{◌≡◌, ◌++◌, IfOk, OnOk, flat_map};
-ghost use Rattle.wat_answers.specs.Notices.{more_json, more_line, more_words, notice_json, notice_report};
+ghost use Rattle.wat_answers.specs.Notices.{error_head, further_line, further_words, more_json, more_line, more_words, notice_json, notice_report};
 
 use std::alloc::{AllocError, Global};
 use wat_report::{Diagnostic, add_diagnostic, add_json, add_json_head, add_json_number};
@@ -13,6 +13,9 @@ pub enum Notice {
     Found(Diagnostic),
     /// The number of invalid fields after the first 20. These fields have no diagnostic.
     More(usize),
+    /// The number of errors of names, blocks and imports after the first 20. These errors have no
+    /// diagnostic.
+    Further(usize),
 }
 
 /// Adds `N more fields are invalid`, without a line break.
@@ -25,17 +28,43 @@ pub fn add_more_words(out: &mut Vec<u8>, count: usize) -> Result<(), AllocError>
     out.extend_from_slice(words.as_bytes())
 }
 
+/// Adds `N more errors in names, blocks and imports`, without a line break.
+///
+/// The error is AllocError if memory runs out.
+pub fn add_further_words(out: &mut Vec<u8>, count: usize) -> Result<(), AllocError>
+    ensures { OnOk result (out.new.items ≡ out.old.items ++ further_words count) }
+{
+    let words = format!(in *out.allocator(); "{count} more errors in names, blocks and imports")?;
+    out.extend_from_slice(words.as_bytes())
+}
+
+/// Adds `NAME: error: `, which begins a line of a report without a position.
+fn add_error_head(out: &mut Vec<u8>, name: &str) -> Result<(), AllocError>
+    ensures { OnOk result (out.new.items ≡ out.old.items ++ error_head name.now) }
+{
+    out.extend_from_slice(name.as_bytes())?;
+    out.extend_from_slice(b": error: ")
+}
+
 /// Adds the line of a report with the number of further invalid fields.
 fn add_more_line(out: &mut Vec<u8>, name: &str, count: usize) -> Result<(), AllocError>
     ensures { OnOk result (out.new.items ≡ out.old.items ++ more_line name.now count) }
 {
-    out.extend_from_slice(name.as_bytes())?;
-    out.extend_from_slice(b": error: ")?;
+    add_error_head(out, name)?;
     add_more_words(out, count)?;
     out.extend_from_slice(b"\n")
 }
 
-/// Adds a line with the number of further invalid fields as a JSON object.
+/// Adds the line of a report with the number of further errors of names, blocks and imports.
+fn add_further_line(out: &mut Vec<u8>, name: &str, count: usize) -> Result<(), AllocError>
+    ensures { OnOk result (out.new.items ≡ out.old.items ++ further_line name.now count) }
+{
+    add_error_head(out, name)?;
+    add_further_words(out, count)?;
+    out.extend_from_slice(b"\n")
+}
+
+/// Adds a line with the number of further invalid fields, or of further errors, as a JSON object.
 fn add_more_json(out: &mut Vec<u8>, file: &str, count: usize) -> Result<(), AllocError>
     ensures { OnOk result (out.new.items ≡ out.old.items ++ more_json file.now count) }
 {
@@ -52,6 +81,7 @@ fn add_to_report(out: &mut Vec<u8>, name: &str, notice: &Notice) -> Result<(), A
     match notice {
         Notice::Found(diagnostic) => add_diagnostic(out, name, diagnostic),
         Notice::More(count) => add_more_line(out, name, *count),
+        Notice::Further(count) => add_further_line(out, name, *count),
     }
 }
 
@@ -63,6 +93,7 @@ fn add_to_json(out: &mut Vec<u8>, file: &str, notice: &Notice) -> Result<(), All
     match notice {
         Notice::Found(diagnostic) => add_json(out, file, diagnostic),
         Notice::More(count) => add_more_json(out, file, *count),
+        Notice::Further(count) => add_more_json(out, file, *count),
     }
 }
 

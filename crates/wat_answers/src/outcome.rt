@@ -10,7 +10,7 @@ ghost use Rattle.wat_report.specs.Report.{IsReport, report_text};
 use crate::checked::checked_bytes;
 use crate::notice::{json_of, report_of};
 use crate::reading::module_of;
-use crate::task::Task;
+use crate::task::{Extent, Task};
 use bumpalo::Bump;
 use std::alloc::{AllocError, Global};
 use wat_core::{Error, Fault, Module};
@@ -45,7 +45,7 @@ fn answer_for_module(alloc: Global, task: Task, module: &Module) -> Result<Vec<u
 {
     let mut listing = Vec::new(alloc);
     match task {
-        Task::Check | Task::Json => {}
+        Task::Check(_) | Task::Json(_) => {}
         Task::Listing => add_module(&mut listing, module)?,
         Task::Print(layout) => return printed(alloc, layout, module),
     }
@@ -120,25 +120,35 @@ fn answer_for_bytes(
 }
 
 /// Checks bytes of that name. Returns the report of the notices, and the status.
-fn reported(alloc: Global, name: &str, bytes: &[u8]) -> Result<(Vec<u8>, u8), AllocError>
-    ensures { IfOk result (λ output. AnswersFound (notice_report name.now) bytes.now output.0.items
-        output.1) }
+fn reported(
+    alloc: Global,
+    extent: Extent,
+    name: &str,
+    bytes: &[u8],
+) -> Result<(Vec<u8>, u8), AllocError>
+    ensures { IfOk result (λ output. AnswersFound (notice_report name.now) extent bytes.now
+        output.0.items output.1) }
 {
-    let (notices, status) = checked_bytes(alloc, bytes)?;
+    let (notices, status) = checked_bytes(alloc, extent, bytes)?;
     Ok((report_of(alloc, name, &notices)?, status))
 }
 
 /// Checks bytes of that name. Returns the notices as JSON, and the status.
-fn reported_as_json(alloc: Global, name: &str, bytes: &[u8]) -> Result<(Vec<u8>, u8), AllocError>
-    ensures { IfOk result (λ output. AnswersFound (notice_json name.now) bytes.now output.0.items
-        output.1) }
+fn reported_as_json(
+    alloc: Global,
+    extent: Extent,
+    name: &str,
+    bytes: &[u8],
+) -> Result<(Vec<u8>, u8), AllocError>
+    ensures { IfOk result (λ output. AnswersFound (notice_json name.now) extent bytes.now
+        output.0.items output.1) }
 {
-    let (notices, status) = checked_bytes(alloc, bytes)?;
+    let (notices, status) = checked_bytes(alloc, extent, bytes)?;
     Ok((json_of(alloc, name, &notices)?, status))
 }
 
-/// Returns the answer for bytes of that name, and the status: 0 if they are the text of a module,
-/// else 1. With status 1 the answer is the report of the errors, or for [`Task::Json`] the errors as
+/// Returns the answer for bytes of that name, and the status: 0 if they are the text of a module
+/// without errors, else 1. With status 1 the answer is the report of the errors, or for [`Task::Json`] the errors as
 /// JSON.
 ///
 /// The error is AllocError if memory runs out.
@@ -152,8 +162,8 @@ pub fn answer_for(
     ensures { IfOk result (λ output. AnswersBytes task name.now bytes.now output.0.items output.1) }
 {
     match task {
-        Task::Check => reported(alloc, name, bytes),
-        Task::Json => reported_as_json(alloc, name, bytes),
+        Task::Check(extent) => reported(alloc, extent, name, bytes),
+        Task::Json(extent) => reported_as_json(alloc, extent, name, bytes),
         Task::Listing | Task::Print(_) => answer_for_bytes(alloc, task, name, bytes),
     }
 }

@@ -23,7 +23,7 @@ pub(crate) fn module_of<'a>(
     read_module(alloc, text, arena)
 }
 
-/// Parses a text with these tokens as a module.
+/// Parses a text with these tokens as a module. Expressions keep the spans of their instructions.
 pub(crate) fn module_of_tokens<'a>(
     alloc: Global,
     text: &str,
@@ -35,5 +35,5 @@ pub(crate) fn module_of_tokens<'a>(
     ensures none { IfErr result (λ e. e.fault ≢ Memory → (m : ModuleModel)
         → SpellsModule text.now m → ⊥) }
 {
-    read_module_of(alloc, text, tokens)
+    read_module_of(alloc, text, tokens, true)
 }

@@ -68,7 +68,7 @@ struct Shortened {
 }
 
 /// Returns the word at an index, or `""` if the token there isn't a word.
-fn word_at<'a>(tokens: &Tokens<'a>, index: usize) -> &'a str {
+pub(crate) fn word_at<'a>(tokens: &Tokens<'a>, index: usize) -> &'a str {
     if index >= tokens.len() {
         return "";
     }

@@ -1,12 +1,12 @@
 //! Faults as records of numbers.
 
-ghost use Rattle.std.specs.Prelude.{◌≡◌, ◌++◌, IfOk, OnOk, length};
-ghost use Rattle.wat_answers.specs.Notices.{more_words};
-ghost use Rattle.wat_c.specs.Faults.{notice_words, record_of, records_of, words_of};
-ghost use Rattle.wat_answers.specs.declared.notice.Notice.TheVariants.{Found, More};
+ghost use Rattle.std.specs.Prelude.{◌≡◌, ◌≤◌, ◌++◌, ◌-◌, IfOk, OnOk, length};
+ghost use Rattle.wat_answers.specs.Notices.{further_words, more_words};
+ghost use Rattle.wat_c.specs.Faults.{notice_words, number_record, record_of, records_of, words_of};
+ghost use Rattle.wat_answers.specs.declared.notice.Notice.TheVariants.{Found, More, Further};
 
 use std::alloc::{AllocError, Global};
-use wat_answers::{Notice, add_more_words};
+use wat_answers::{Notice, add_further_words, add_more_words};
 use wat_report::Diagnostic;
 
 /// A fault as C has it. `message`, `hint`, `expected` and `end` are offsets into the messages: the
@@ -23,8 +23,8 @@ pub struct WatFault {
     pub line: usize,
     /// The column in characters, from 1.
     pub column: usize,
-    /// The number of the fault, from 1 to 21; 0 for the number of further invalid fields, which has
-    /// no place.
+    /// The number of the fault, as `WAT_FAULT_..` of `bindings/wat.h` has it; 0 for the number of
+    /// further invalid fields, which has no place.
     pub fault: usize,
     /// The offset of the message.
     pub message: usize,
@@ -64,7 +64,7 @@ fn diagnostic_record(
         length: diagnostic.length,
         line: diagnostic.place.line,
         column: diagnostic.place.column,
-        fault: usize::from(diagnostic.fault.number()),
+        fault: usize::from(diagnostic.kind.number()),
         message,
         hint,
         expected,
@@ -72,15 +72,13 @@ fn diagnostic_record(
     })
 }
 
-/// Adds the words for a number of further invalid fields to the messages, and returns the record.
-fn more_record(messages: &mut Vec<u8>, count: usize) -> Result<WatFault, AllocError>
-    ensures words { OnOk result (messages.new.items ≡ messages.old.items ++ more_words count) }
-    ensures fault { IfOk result (λ r. r ≡ record_of (length messages.old.items) (More count)) }
+/// Returns the record of a number of further errors, whose words are the messages between two
+/// offsets.
+fn number_record(message: usize, end: usize) -> WatFault
+    requires { message ≤ end }
+    ensures { result ≡ number_record message (end - message) }
 {
-    let message = messages.len();
-    add_more_words(messages, count)?;
-    let end = messages.len();
-    Ok(WatFault {
+    WatFault {
         offset: 0,
         length: 0,
         line: 0,
@@ -90,7 +88,28 @@ fn more_record(messages: &mut Vec<u8>, count: usize) -> Result<WatFault, AllocEr
         hint: end,
         expected: end,
         end,
-    })
+    }
+}
+
+/// Adds the words for a number of further invalid fields to the messages, and returns the record.
+fn more_record(messages: &mut Vec<u8>, count: usize) -> Result<WatFault, AllocError>
+    ensures words { OnOk result (messages.new.items ≡ messages.old.items ++ more_words count) }
+    ensures fault { IfOk result (λ r. r ≡ record_of (length messages.old.items) (More count)) }
+{
+    let message = messages.len();
+    add_more_words(messages, count)?;
+    Ok(number_record(message, messages.len()))
+}
+
+/// Adds the words for a number of further errors of names, blocks and imports to the messages, and
+/// returns the record.
+fn further_record(messages: &mut Vec<u8>, count: usize) -> Result<WatFault, AllocError>
+    ensures words { OnOk result (messages.new.items ≡ messages.old.items ++ further_words count) }
+    ensures fault { IfOk result (λ r. r ≡ record_of (length messages.old.items) (Further count)) }
+{
+    let message = messages.len();
+    add_further_words(messages, count)?;
+    Ok(number_record(message, messages.len()))
 }
 
 /// Adds the words of a notice to the messages, and returns its record.
@@ -102,6 +121,7 @@ fn notice_record(messages: &mut Vec<u8>, notice: &Notice) -> Result<WatFault, Al
     match notice {
         Notice::Found(diagnostic) => diagnostic_record(messages, diagnostic),
         Notice::More(count) => more_record(messages, *count),
+        Notice::Further(count) => further_record(messages, *count),
     }
 }
 

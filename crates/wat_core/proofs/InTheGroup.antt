@@ -2,7 +2,7 @@
 use Rattle.std.proofs.Common.{◌≡◌, ◌≢◌, ℕ, ◌+◌, Bool, true, false, List, [], ◌∷◌, ◌++◌, length, drop, Some, None, refl, sym, ap, ◌∙◌, subst, inl, inr, Option, Result, Ok, Err, IfOk, IfErr, MatchResult, suc}
 use Rattle.wat_fields.specs.Prelude.{one_reads, annotated, as_lparen}
 use Rattle.wat_core.specs.Prelude.{cases_Bool, ModuleModel, module_, IsModule, SpellsModule, seen_behind, none_seen, IsCut, begins_hidden_group, shuts, deeper, visible, visible_tokens, hidden_count_at, hidden_count, State, behind, ends, Token, Placed, LParen, RParen, tokens_of, seen, behind_one}
-use Rattle.wat_tokens.specs.State.{IsFresh}
+use Rattle.wat_tokens.specs.State.{begun}
 use Rattle.wat_core.specs.Laws.Sight.{begins_hidden_anyway}
 use Rattle.wat_tokens.specs.Production.{Front}
 use Rattle.wat_tokens.specs.Visible.{placed_behind}
@@ -84,9 +84,13 @@ pub record Opened (text : List ℕ) (q : State) : Type 0 where
   pub rest : tokens_of q.rest ≡ behind false 1 (tokens_of all)
   pub off : q.known ≡ false
 
-pub opened : (text : List ℕ) (p q : State) (u : Unit {0}) → IsFresh text p → one_reads as_lparen p.left ≡ Some (u, q.left) → q.rest ≡ behind_one p.known p.rest → q.known ≡ p.known → Opened text q
+-- a parser at the first token of the text's cut, which may keep spans
+abbrev pub IsBegun : List ℕ → State → Type 0
+IsBegun text p = (ts : List Placed) × (spans : Bool) × IsCut text ts × (p ≡ record (begun ts) { tracks = spans })
+
+pub opened : (text : List ℕ) (p q : State) (u : Unit {0}) → IsBegun text p → one_reads as_lparen p.left ≡ Some (u, q.left) → q.rest ≡ behind_one p.known p.rest → q.known ≡ p.known → Opened text q
 unfolding placed_behind
-opened text p q u (ts, cut, is) reads stands known = record {
+opened text p q u (ts, spans, cut, is) reads stands known = record {
   all = ts;
   cut = cut;
   left = q.left;

@@ -2,6 +2,7 @@
 
 ghost use Rattle.std.specs.Prelude.{◌≡◌, ◌≢◌, [], ◌∷◌, IfOk, IfErr, MatchResult};
 ghost use Rattle.wat_fields.specs.Prelude.{AreSkips, placed};
+ghost use Rattle.wat_tokens.specs.State.{begun};
 ghost use Rattle.wat_core.specs.Prelude.{IsCut, ModuleModel, module_view, SpellsModule, Memory, RParen};
 
 use crate::module::Module;
@@ -51,14 +52,27 @@ pub fn read_module<'a>(alloc: Global, text: &'a str, arena: &'a Bump) -> Result<
         → MatchResult result (λ n. module_view n ≡ m) (λ e. e.fault ≡ Memory) }
 {
     let tokens = cut(alloc, text, arena)?;
-    read_module_of(alloc, text, tokens)
+    read_module_of(alloc, text, tokens, false)
 }
 
-/// Parses a text as [`read_module`] does, from the tokens into which the text was cut.
+/// Returns a parser before the first token of a text that was cut. Expressions keep the spans of
+/// their instructions if `spans`. `end` is the length of the text in bytes.
+fn parser_of<'a>(alloc: Global, tokens: Tokens<'a>, end: usize, spans: bool) -> Parser<'a>
+    requires { AreSkips tokens }
+    ensures { result ≡ record (begun (placed tokens.entry)) { tracks = spans } }
+{
+    let mut parser = Parser::over(alloc, tokens, end);
+    parser.track_instr_spans(spans);
+    parser
+}
+
+/// Parses a text as [`read_module`] does, from the tokens into which the text was cut. Expressions
+/// keep the spans of their instructions if `spans`.
 pub fn read_module_of<'a>(
     alloc: Global,
     text: &str,
     tokens: Tokens<'a>,
+    spans: bool,
 ) -> Result<Module<'a>, Error>
     requires cut { IsCut text.now (placed tokens) }
     requires skips { AreSkips tokens }
@@ -70,7 +84,7 @@ pub fn read_module_of<'a>(
 {
     // A text has one cut. This law does nothing at run time.
     one_cut();
-    let mut parser = Parser::over(alloc, tokens, text.len());
+    let mut parser = parser_of(alloc, tokens, text.len(), spans);
     parser.open()?;
     let module = Module::parse(&mut parser)?;
     closed(&mut parser, module)

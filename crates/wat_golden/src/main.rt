@@ -18,7 +18,7 @@
 //! row is copied to the output.
 //!
 //! A kind is a type, or one of `peek`, `values`, `signatures`, `section`, `pushed`, `regrouped`,
-//! `report`, `show`, `line` and `nearest`, whose results are more than a value: their modules
+//! `names`, `report`, `show`, `line` and `nearest`, whose results are more than a value: their modules
 //! describe them.
 #![tactic(auto)]
 
@@ -26,6 +26,7 @@ mod copies;
 mod fields;
 mod instruction;
 mod links;
+mod names;
 mod operand;
 mod operands;
 mod printers;
@@ -50,6 +51,7 @@ fn add_row(out: &mut String, row: &Row<'_>) -> Result<(), AllocError> {
         || instruction::add_row(out, row)?
         || links::add_row(out, row)?
         || fields::add_row(out, row)?
+        || names::add_row(out, row)?
         || texts::add_row(out, row)?;
     if !found {
         out.push_str("? there is no such kind\n")?;

@@ -6,8 +6,10 @@ pub mod Distances
 pub mod Escape
 pub mod Fewest
 pub mod Groups
+pub mod LabelWords
 pub mod Labels
 pub mod Nearby
 pub mod Openings
+pub mod Runs
 pub mod UpTo
 pub mod Words

@@ -1,12 +1,14 @@
 -- Words and groups around an offset.
 use Rattle.std.specs.Prelude.{ℕ, ◌+◌, ◌-◌, ◌==◌, ◌&&◌, ◌||◌, Bool, List, [], nat_lt, drop, slice_index, if◌then◌else◌}
+use Prim.Native.Char.{code}
 use Rattle.wat_mnemonics.specs.Prelude.{prefix_len, is_space}
 use Rattle.wat_report.specs.Found.{word_at, word_end}
 use Rattle.wat_report.specs.Positions.{last_up_to}
 
 -- a parenthesis is directly before the offset
 abbrev pub is_behind_paren : List ℕ → ℕ → Bool
-is_behind_paren text k = (slice_index text (k - 1) == 40) || (slice_index text (k - 1) == 41)
+is_behind_paren text k =
+    (slice_index text (k - 1) == code "(") || (slice_index text (k - 1) == code ")")
 
 -- the offset directly after the last parenthesis before the offset, or 0
 unfoldable pub list_start : List ℕ → ℕ → ℕ
@@ -23,4 +25,4 @@ past_word text at = blank_end text (word_end text at)
 -- the word at the offset if it is directly after a `(`, else the empty word
 unfoldable pub opened_word : List ℕ → ℕ → List ℕ
 opened_word text at =
-    if nat_lt 0 at && (slice_index text (at - 1) == 40) then word_at text at else []
+    if nat_lt 0 at && (slice_index text (at - 1) == code "(") then word_at text at else []

@@ -13,24 +13,24 @@ use Rattle.wat_report.specs.Found.{word_at}
 use Rattle.wat_report.specs.Positions.{position_of_offset}
 use Rattle.wat_report.specs.Hints.{new_word}
 
--- the word of a value, between backquotes
-unfoldable pub in_backquotes : {A : Type 0} → (A → List ℕ) → A → List ℕ
-in_backquotes spelling a = codes "`" ++ (spelling a ++ codes "`")
+-- the mark and the word of a value, between backquotes
+unfoldable pub in_backquotes : {A : Type 0} → List ℕ → (A → List ℕ) → A → List ℕ
+in_backquotes mark spelling a = codes "`" ++ (mark ++ (spelling a ++ codes "`"))
 
 -- the same after a comma
-abbrev pub next_quoted : {A : Type 0} → (A → List ℕ) → A → List ℕ
-next_quoted spelling a = codes ", " ++ in_backquotes spelling a
+abbrev pub next_quoted : {A : Type 0} → List ℕ → (A → List ℕ) → A → List ℕ
+next_quoted mark spelling a = codes ", " ++ in_backquotes mark spelling a
 
 -- the question whether one of the words was meant
-unfoldable pub question_words : {A : Type 0} → (A → List ℕ) → A → List A → List ℕ
-question_words spelling a others =
-    codes "did you mean " ++ (in_backquotes spelling a
-    ++ (flat_map (next_quoted spelling) others ++ codes "?"))
+unfoldable pub question_words : {A : Type 0} → List ℕ → (A → List ℕ) → A → List A → List ℕ
+question_words mark spelling a others =
+    codes "did you mean " ++ (in_backquotes mark spelling a
+    ++ (flat_map (next_quoted mark spelling) others ++ codes "?"))
 
--- the question for a list of words, nothing for an empty list
-unfoldable pub nearest_words : {A : Type 0} → (A → List ℕ) → List A → List ℕ
-nearest_words spelling [] = []
-nearest_words spelling (a ∷ others) = question_words spelling a others
+-- the question for a list of words, nothing for an empty list; a mark is before each word
+unfoldable pub nearest_words : {A : Type 0} → List ℕ → (A → List ℕ) → List A → List ℕ
+nearest_words mark spelling [] = []
+nearest_words mark spelling (a ∷ others) = question_words mark spelling a others
 
 -- the word that replaced an old word
 abbrev pub today_words : Option (List ℕ) → List ℕ
@@ -83,11 +83,11 @@ hint_words text groups at None = []
 hint_words text groups at (Some OldWord) = today_words (new_word (word_at text at))
 hint_words text groups at (Some Unclosed) = unclosed_words groups
 hint_words text groups at (Some Nearest) =
-    nearest_words op_word (nearest_among op_word (word_at text at) OPS)
+    nearest_words [] op_word (nearest_among op_word (word_at text at) OPS)
 hint_words text groups at (Some NearField) =
-    nearest_words keyword_text (nearest_among keyword_text (word_at text at) FIELD_WORDS)
+    nearest_words [] keyword_text (nearest_among keyword_text (word_at text at) FIELD_WORDS)
 hint_words text groups at (Some NearType) =
-    nearest_words keyword_text (nearest_among keyword_text (word_at text at) TYPE_WORDS)
+    nearest_words [] keyword_text (nearest_among keyword_text (word_at text at) TYPE_WORDS)
 hint_words text groups at (Some WithoutDollar) = without_dollar_words (word_at text at)
 hint_words text groups at (Some WrongEscape) =
     wrong_escape_words (position_of_offset text (escapes_end text at)).column

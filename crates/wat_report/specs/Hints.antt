@@ -1,5 +1,6 @@
 -- Hints: how an error may be mended.
 use Rattle.std.specs.Prelude.{ℕ, ◌+◌, ◌-◌, ◌==◌, ◌&&◌, ◌||◌, Bool, List, codes, count_by, length, nat_le, nat_lt, take, slice_index, slice_range, Option, Some, None, is_some, if◌then◌else◌}
+use Prim.Native.Char.{code}
 use Rattle.std.specs.Option.{option_or}
 use Rattle.wat_mnemonics.specs.Prelude.{list_any, bytes_eq, Fault, between}
 use Rattle.wat_tokens.specs.Error.{LexChar, LexString, Unexpected, Operator}
@@ -17,7 +18,7 @@ use Rattle.wat_report.specs.declared.meant.TheConstants.{FIELD_WORDS}
 -- the text begins with a byte order mark: the character U+FEFF
 abbrev pub begins_with_mark : List ℕ → Bool
 begins_with_mark text =
-    (slice_index text 0 == 239) && ((slice_index text 1 == 187) && (slice_index text 2 == 191))
+    (slice_index text 0 == 0xef) && ((slice_index text 1 == 0xbb) && (slice_index text 2 == 0xbf))
 
 -- a module's field begins with the word
 abbrev pub is_field_word : List ℕ → Bool
@@ -26,8 +27,8 @@ is_field_word word = list_any (λ field. bytes_eq (keyword_text field) word) FIE
 -- the word of a field is at the offset, directly after the first `(` of the text
 abbrev pub is_first_field : List ℕ → ℕ → Bool
 is_first_field text at =
-    nat_lt 0 at && ((slice_index text (at - 1) == 40)
-    && (is_field_word (word_at text at) && (count_by (λ b. b == 40) (take at text) == 1)))
+    nat_lt 0 at && ((slice_index text (at - 1) == code "(")
+    && (is_field_word (word_at text at) && (count_by (λ b. b == code "(") (take at text) == 1)))
 
 -- the word that replaced a word when the format was standardized
 unfoldable pub new_word : List ℕ → Option (List ℕ)
@@ -45,11 +46,11 @@ new_word word =
 -- `//` or `/*` is at the offset
 abbrev pub is_slash_comment : List ℕ → ℕ → Bool
 is_slash_comment text at =
-    (slice_index text at == 47)
-    && ((slice_index text (at + 1) == 47) || (slice_index text (at + 1) == 42))
+    (slice_index text at == code "/")
+    && ((slice_index text (at + 1) == code "/") || (slice_index text (at + 1) == code "*"))
 
 abbrev pub is_semicolon : List ℕ → ℕ → Bool
-is_semicolon text at = slice_index text at == 59
+is_semicolon text at = slice_index text at == code ";"
 
 -- the number of occurrences of a byte in the text
 abbrev pub count_of : List ℕ → ℕ → ℕ
@@ -65,15 +66,15 @@ count_in_line text at byte = count_by (λ b. b == byte) (slice_range text at (li
 
 -- the string at the offset has an invalid escape before the next quote
 unfoldable pub has_wrong_escape : List ℕ → ℕ → Bool
-has_wrong_escape text at = slice_index text (escapes_end text at) == 92
+has_wrong_escape text at = slice_index text (escapes_end text at) == code "\\"
 
 -- the hint for an invalid string: it isn't closed on its line, it has an invalid escape, or a
 -- backslash follows on its line
 unfoldable pub string_hint : List ℕ → ℕ → Option Hint
 string_hint text at =
-    if nat_lt (count_in_line text at 34) 2 then Some OpenString
+    if nat_lt (count_in_line text at (code "\"")) 2 then Some OpenString
     else if has_wrong_escape text at then Some WrongEscape
-    else if nat_lt 0 (count_in_line text at 92) then Some Escapes
+    else if nat_lt 0 (count_in_line text at (code "\\")) then Some Escapes
     else None
 
 -- the hint where no token begins: a byte order mark, or a `;`
@@ -104,17 +105,18 @@ is_string_word word = bytes_eq word (codes "export") || bytes_eq word (codes "im
 -- a `'` is at the offset, or follows a word there that needs a string after it
 unfoldable pub is_other_quote : List ℕ → ℕ → Bool
 is_other_quote text at =
-    (slice_index text at == 39)
-    || (is_string_word (word_at text at) && (slice_index text (past_word text at) == 39))
+    (slice_index text at == code "'")
+    || (is_string_word (word_at text at) && (slice_index text (past_word text at) == code "'"))
 
 -- a digit, `+` or `-`
 abbrev pub begins_number : ℕ → Bool
-begins_number b = between 48 57 b || ((b == 43) || (b == 45))
+begins_number b = between (code "0") (code "9") b || ((b == code "+") || (b == code "-"))
 
 -- the word has a `.`, or an `e` and no `x`
 abbrev pub is_fraction : List ℕ → Bool
 is_fraction word =
-    nat_lt 0 (count_of word 46) || (nat_lt 0 (count_of word 101) && (count_of word 120 == 0))
+    nat_lt 0 (count_of word (code "."))
+    || (nat_lt 0 (count_of word (code "e")) && (count_of word (code "x") == 0))
 
 -- a number that isn't an integer is at the offset
 unfoldable pub is_fraction_at : List ℕ → ℕ → Bool
@@ -124,7 +126,7 @@ is_fraction_at text at = begins_number (slice_index text at) && is_fraction (wor
 unfoldable pub is_field_place : List ℕ → Option Groups → ℕ → Bool
 is_field_place text groups at =
     is_word_at text at
-    && (nat_lt 0 at && ((slice_index text (at - 1) == 40) && is_in_two groups))
+    && (nat_lt 0 at && ((slice_index text (at - 1) == code "(") && is_in_two groups))
 
 -- types follow the word
 abbrev pub is_types_word : List ℕ → Bool

@@ -1,6 +1,7 @@
 -- Diagnostics as JSON (RFC 8259).
 use Rattle.std.specs.Prelude.{ℕ, ◌==◌, List, [], ◌∷◌, ◌++◌, codes, decimal, flat_map, nat_lt, if◌then◌else◌}
-use Rattle.wat_lexer.specs.Faults.{fault_name}
+use Prim.Native.Char.{code}
+use Rattle.wat_report.specs.Kinds.{kind_name}
 use Rattle.wat_report.specs.WrongBytes.{hex_text}
 use Rattle.wat_report.specs.declared.diagnostic.Diagnostic.{Diagnostic}
 
@@ -8,9 +9,9 @@ use Rattle.wat_report.specs.declared.diagnostic.Diagnostic.{Diagnostic}
 -- U+0020; each other byte stands for itself.
 abbrev pub json_escape : ℕ → List ℕ
 json_escape b =
-    if b == 34 then codes "\\\""
-    else if b == 92 then codes "\\\\"
-    else if nat_lt b 32 then codes "\\u00" ++ hex_text b
+    if b == code "\"" then codes "\\\""
+    else if b == code "\\" then codes "\\\\"
+    else if nat_lt b 0x20 then codes "\\u00" ++ hex_text b
     else b ∷ []
 
 -- the string of JSON for a text
@@ -43,7 +44,7 @@ json_place d =
 -- the members for the kind of the error
 unfoldable pub json_fault : Diagnostic → List ℕ
 json_fault d =
-    json_member (codes "fault") (fault_name d.fault)
+    json_member (codes "fault") (kind_name d.kind)
     ++ json_member (codes "message") d.message.items
 
 -- the members `hint` and `expected`

@@ -10,7 +10,12 @@ pub mod HintWords
 pub mod Hints
 pub mod Json
 pub mod JsonStrings
+pub mod Kinds
+pub mod LabelHints
 pub mod Meant
+pub mod NameDiagnostic
+pub mod NameHints
+pub mod NameRules
 pub mod Nearest
 pub mod Positions
 pub mod Report

@@ -1,5 +1,6 @@
 -- The character, the line and the column of an offset. Offsets are in bytes.
 use Rattle.std.specs.Prelude.{ℕ, zero, suc, ◌+◌, ◌-◌, Bool, not, ◌&&◌, ◌||◌, ◌==◌, min, List, length, slice_index, slice_range, drop, if◌then◌else◌}
+use Prim.Native.Char.{code}
 use Rattle.std.specs.Str.{chars}
 use Rattle.std.specs.List.{prefix_len}
 use Rattle.wat_lexer.specs.Bytes.{between, is_line_end}
@@ -23,8 +24,8 @@ begins_char text k = not (between 128 191 (slice_index text k))
 -- A line begins at the offset: the first line, or a line after LF, or after a CR without LF.
 abbrev pub begins_line : List ℕ → ℕ → Bool
 begins_line text k =
-    (k == 0) || ((slice_index text (k - 1) == 10)
-    || ((slice_index text (k - 1) == 13) && not (slice_index text k == 10)))
+    (k == 0) || ((slice_index text (k - 1) == code "\n")
+    || ((slice_index text (k - 1) == code "\r") && not (slice_index text k == code "\n")))
 
 -- the start of the character that contains the offset; for an offset after the end, the end
 abbrev pub char_start : List ℕ → ℕ → ℕ

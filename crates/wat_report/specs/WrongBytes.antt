@@ -5,6 +5,7 @@ use Rattle.wat_tokens.specs.Error.{Utf8}
 use Rattle.wat_report.specs.Positions.{line_start, position_of_char}
 use Rattle.wat_report.specs.Shown.{open_line}
 use Rattle.wat_report.specs.declared.diagnostic.Diagnostic.{Diagnostic}
+use Rattle.wat_report.specs.declared.kind.Kind.TheVariants.{Parse}
 
 -- two hexadecimal digits
 abbrev pub hex_text : ℕ → List ℕ
@@ -13,8 +14,8 @@ hex_text b = digit_char (b / 16) ∷ digit_char (b % 16) ∷ []
 -- the bytes begin with the byte order mark of UTF-16
 abbrev pub begins_with_utf16_mark : List ℕ → Bool
 begins_with_utf16_mark bytes =
-    ((slice_index bytes 0 == 255) && (slice_index bytes 1 == 254))
-    || ((slice_index bytes 0 == 254) && (slice_index bytes 1 == 255))
+    ((slice_index bytes 0 == 0xff) && (slice_index bytes 1 == 0xfe))
+    || ((slice_index bytes 0 == 0xfe) && (slice_index bytes 1 == 0xff))
 
 abbrev pub utf16_words : List ℕ → List ℕ
 utf16_words bytes =
@@ -32,7 +33,7 @@ pub record IsWrongByte (bytes front : List ℕ) (byte : ℕ) (d : Diagnostic) : 
   pub offset : d.offset ≡ length front
   pub marked : d.length ≡ 1
   pub place : d.place ≡ position_of_char front (length front)
-  pub fault : d.fault ≡ Utf8
+  pub kind : d.kind ≡ Parse Utf8
   pub message : d.message.items ≡ wrong_byte_text byte
   pub shown : d.shown.items ≡ last_line front
   pub hint : d.hint.items ≡ utf16_words bytes

@@ -6,6 +6,7 @@ ghost use Rattle.wat_report.specs.WrongBytes.{IsFirstWrongByte, IsWrongByte, beg
 
 use crate::caret::add_open;
 use crate::diagnostic::Diagnostic;
+use crate::kind::Kind;
 use crate::lines::{line_start, position_of_char};
 use crate::write::add;
 use std::alloc::{AllocError, Global};
@@ -68,7 +69,7 @@ fn wrong_byte(alloc: Global, bytes: &[u8], front: &str, byte: u8) -> Result<Diag
         offset: front.len(),
         length: 1,
         place: position_of_char(front, front.len()),
-        fault: Fault::Utf8,
+        kind: Kind::Parse(Fault::Utf8),
         message: message_of(alloc, byte)?,
         shown: shown_of(alloc, front)?,
         hint: hint_of(alloc, bytes)?,
@@ -87,7 +88,7 @@ fn first_wrong_byte(alloc: Global, bytes: &[u8], valid: usize) -> Result<Diagnos
 
 /// Returns the bytes as a text, or the diagnostic of the first byte that isn't valid UTF-8.
 ///
-/// The fault of that diagnostic is Utf8, and its line is shown up to the byte, with `..` for the
+/// The kind of that diagnostic is Utf8, and its line is shown up to the byte, with `..` for the
 /// rest. The outer error is AllocError if memory runs out.
 pub fn text_or_diagnostic<'a>(
     alloc: Global,

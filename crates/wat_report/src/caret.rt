@@ -1,10 +1,11 @@
-//! The line of the text in a report, and the caret below it.
+//! The line of the text in a report, and the carets below it.
 
 ghost use Rattle.std.specs.Prelude.{◌≡◌, ◌++◌, ◌≤◌, ◌<◌, ◌+◌, ◌-◌, OnOk, length, map, min};
 ghost use Rattle.std.specs.Str.{chars, IsCharBoundary};
 ghost use Rattle.wat_report.specs.Positions.{line_start, line_stop};
-ghost use Rattle.wat_report.specs.Shown.{padding, caret_line, first_shown, last_shown, marked_line, open_line, shown_line, source_line};
+ghost use Rattle.wat_report.specs.Shown.{padding, caret_count, caret_line, carets, first_shown, last_marked, last_shown, marked_line, open_line, shown_line, source_line};
 
+use crate::found::marked_len;
 use crate::lines::{char_start, line_start, line_stop};
 use crate::write::add;
 use std::alloc::AllocError;
@@ -71,39 +72,90 @@ fn add_source(
     add(out, if cut_behind { "..\n" } else { "\n" })
 }
 
-/// Adds the caret, below the place: after a space or tab for each shown character before it.
-fn add_caret(out: &mut Vec<u8>, before: &str, cut_before: bool) -> Result<(), AllocError>
-    ensures { OnOk result (out.new.items ≡ out.old.items ++ caret_line before.now cut_before) }
+/// Returns the end of the marked characters that are shown. The line is shown up to `last`.
+#[tactic(auto, using(crate::proofs::Cuts::char_start_behind))]
+fn last_marked(text: &str, mark: usize, end: usize, last: usize) -> usize
+    requires end { mark ≤ end }
+    requires last { mark ≤ last }
+    requires within { last ≤ length text.now }
+    requires mark { IsCharBoundary text.now mark }
+    requires boundary { IsCharBoundary text.now last }
+    ensures value { result ≡ last_marked text.now end last }
+    ensures order { mark ≤ result }
+    ensures within { result ≤ length text.now }
+    ensures boundary { IsCharBoundary text.now result }
+{
+    let end = char_start(text, end);
+    if end < last {
+        return end;
+    }
+    last
+}
+
+/// Returns the number of carets for the marked characters: one for each, and at least one.
+#[tactic(auto, using(std::proofs::lemmas::Str::chars_from_encodes))]
+fn caret_count(marked: &str) -> usize
+    ensures { result ≡ caret_count marked.now }
+{
+    marked.chars().count().max(1)
+}
+
+/// Adds `count` carets.
+#[tactic(auto, using(std::proofs::lemmas::Grind::replicate_next))]
+fn add_carets(out: &mut Vec<u8>, count: usize) -> Result<(), AllocError>
+    ensures { OnOk result (out.new.items ≡ out.old.items ++ carets count) }
+{
+    'carets: for _ in 0..count {
+        out.push(b'^')?;
+    }
+    Ok(())
+}
+
+/// Adds the carets: after a space or tab for each shown character before the place, one for each
+/// marked character.
+fn add_caret_line(
+    out: &mut Vec<u8>,
+    before: &str,
+    marked: &str,
+    cut_before: bool,
+) -> Result<(), AllocError>
+    ensures { OnOk result (out.new.items ≡ out.old.items ++ caret_line before.now marked.now
+        cut_before) }
 {
     add(out, if cut_before { "  " } else { "" })?;
     add_blanks(out, before)?;
-    add(out, "^\n")
+    add_carets(out, caret_count(marked))?;
+    add(out, "\n")
 }
 
-/// Adds the line from start to stop, with a caret below the place.
+/// Adds the line from start to stop, with carets below the characters from mark to end.
 fn add_marked(
     out: &mut Vec<u8>,
     text: &str,
     start: usize,
     mark: usize,
+    end: usize,
     stop: usize,
 ) -> Result<(), AllocError>
     requires start { start ≤ mark }
+    requires end { mark ≤ end }
     requires stop { mark ≤ stop }
     requires within { stop ≤ length text.now }
     requires start_boundary { IsCharBoundary text.now start }
     requires boundary { IsCharBoundary text.now mark }
     requires stop_boundary { IsCharBoundary text.now stop }
-    ensures { OnOk result (out.new.items ≡ out.old.items ++ marked_line text.now start mark stop) }
+    ensures { OnOk result (out.new.items ≡ out.old.items ++ marked_line text.now start mark end
+        stop) }
 {
     let first = first_shown(text, start, mark);
     let last = last_shown(text, mark, stop);
+    let end = last_marked(text, mark, end, last);
     let cut_before = start < first;
     add_source(out, &text[first..last], cut_before, last < stop)?;
-    add_caret(out, &text[first..mark], cut_before)
+    add_caret_line(out, &text[first..mark], &text[mark..end], cut_before)
 }
 
-/// Adds the line that contains the place, with a caret below the place.
+/// Adds the line that contains the offset, with carets below the underlined bytes from the offset on.
 pub(crate) fn add_line(out: &mut Vec<u8>, text: &str, at: usize) -> Result<(), AllocError>
     requires within { at ≤ length text.now }
     requires boundary { IsCharBoundary text.now at }
@@ -111,7 +163,8 @@ pub(crate) fn add_line(out: &mut Vec<u8>, text: &str, at: usize) -> Result<(), A
 {
     let start = line_start(text, at);
     let stop = line_stop(text, start);
-    add_marked(out, text, start, at.min(stop), stop)
+    let end = at + marked_len(text, at);
+    add_marked(out, text, start, at.min(stop), end, stop)
 }
 
 /// Adds the line that begins at start and goes on after the end of the text, with a caret below the
@@ -124,5 +177,5 @@ pub(crate) fn add_open(out: &mut Vec<u8>, text: &str, start: usize) -> Result<()
     let first = first_shown(text, start, text.len());
     let shown = &text[first..];
     add_source(out, shown, start < first, true)?;
-    add_caret(out, shown, start < first)
+    add_caret_line(out, shown, "", start < first)
 }

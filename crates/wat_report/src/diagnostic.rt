@@ -2,7 +2,7 @@
 
 ghost use Rattle.std.specs.Prelude.{◌≡◌, ◌≤◌, [], IfOk, length};
 ghost use Rattle.wat_mnemonics.specs.Prelude.{IsCharBoundary, IsCut, placed, offset_of};
-ghost use Rattle.wat_report.specs.Diagnostic.{IsDiagnostic, IsPlaced, message_text};
+ghost use Rattle.wat_report.specs.Diagnostic.{IsDiagnostic, IsFaultAt, IsPlaced, message_text};
 ghost use Rattle.wat_report.specs.HintWords.{hint_words};
 ghost use Rattle.wat_report.specs.Hints.{hint_of};
 ghost use Rattle.wat_report.specs.Shown.{shown_line};
@@ -11,6 +11,7 @@ use crate::caret::add_line;
 use crate::found::{add_found, is_word_at, marked_len};
 use crate::front::{Groups, groups_before};
 use crate::hint_words::add_hint;
+use crate::kind::Kind;
 use crate::lines::{LineColumn, char_start, position_of_char};
 use crate::rules::{names_token, rule};
 use crate::write::add;
@@ -25,16 +26,16 @@ use wat_tokens::{Error, Fault};
 pub struct Diagnostic {
     /// The offset of the error, from the start of the text.
     pub offset: usize,
-    /// The number of bytes to underline from the offset on: a word, or one character; 0 at the end
-    /// of the text.
+    /// The number of bytes to underline from the offset on: a word, an identifier, a number, a
+    /// string, or else one character; 0 at the end of the text.
     pub length: usize,
     /// The line and the column of the offset.
     pub place: LineColumn,
     /// The kind of the error.
-    pub fault: Fault,
+    pub kind: Kind,
     /// The message, in UTF-8.
     pub message: Vec<u8>,
-    /// The line of the text and the line with the caret, each with a line break.
+    /// The line of the text and the line with the carets, each with a line break.
     pub shown: Vec<u8>,
     /// The words after `hint: `. It is empty if the report has no such line.
     pub hint: Vec<u8>,
@@ -54,7 +55,7 @@ fn message_of(alloc: Global, text: &str, at: usize, fault: Fault) -> Result<Vec<
     Ok(message)
 }
 
-/// Returns the line of the text that contains the offset, and below it the caret.
+/// Returns the line of the text that contains the offset, and below it the carets.
 fn shown_of(alloc: Global, text: &str, at: usize) -> Result<Vec<u8>, AllocError>
     requires within { at ≤ length text.now }
     requires boundary { IsCharBoundary text.now at }
@@ -83,6 +84,33 @@ fn hint_at(
     Ok(hint)
 }
 
+/// Returns the diagnostic at an offset where a character begins, with this message and this hint.
+pub(crate) fn diagnostic_with(
+    alloc: Global,
+    text: &str,
+    at: usize,
+    kind: Kind,
+    message: Vec<u8>,
+    hint: Vec<u8>,
+) -> Result<Diagnostic, AllocError>
+    requires within { at ≤ length text.now }
+    requires boundary { IsCharBoundary text.now at }
+    ensures placed { IfOk result (λ d. IsPlaced text.now at kind message.items
+        hint.items d) }
+    ensures none_expected { IfOk result (λ d. d.expected.items ≡ []) }
+{
+    Ok(Diagnostic {
+        offset: at,
+        length: marked_len(text, at),
+        place: position_of_char(text, at),
+        kind,
+        message,
+        shown: shown_of(alloc, text, at)?,
+        hint,
+        expected: Vec::new(alloc),
+    })
+}
+
 /// Returns the diagnostic of a fault at an offset where a character begins. `groups` counts the
 /// groups before the offset.
 fn diagnostic_at(
@@ -94,19 +122,12 @@ fn diagnostic_at(
 ) -> Result<Diagnostic, AllocError>
     requires within { at ≤ length text.now }
     requires boundary { IsCharBoundary text.now at }
-    ensures placed { IfOk result (λ d. IsPlaced text.now groups at fault d) }
+    ensures placed { IfOk result (λ d. IsFaultAt text.now groups at fault d) }
     ensures none_expected { IfOk result (λ d. d.expected.items ≡ []) }
 {
-    Ok(Diagnostic {
-        offset: at,
-        length: marked_len(text, at),
-        place: position_of_char(text, at),
-        fault,
-        message: message_of(alloc, text, at, fault)?,
-        shown: shown_of(alloc, text, at)?,
-        hint: hint_at(alloc, text, groups, at, fault)?,
-        expected: Vec::new(alloc),
-    })
+    let message = message_of(alloc, text, at, fault)?;
+    let hint = hint_at(alloc, text, groups, at, fault)?;
+    diagnostic_with(alloc, text, at, Kind::Parse(fault), message, hint)
 }
 
 /// Returns the diagnostic of an error in a text with these tokens. The words of `expected` are

@@ -1,6 +1,6 @@
 //! The words of a hint.
 
-ghost use Rattle.std.specs.Prelude.{◌≡◌, ◌++◌, ◌≤◌, OnOk, flat_map, length};
+ghost use Rattle.std.specs.Prelude.{◌≡◌, ◌++◌, ◌≤◌, [], OnOk, flat_map, length};
 ghost use Rattle.wat_mnemonics.specs.Prelude.{IsCharBoundary, op_word};
 ghost use Rattle.wat_mnemonics.specs.declared.table.TheConstants.{OPS};
 ghost use Rattle.wat_report.specs.HintWords.{without_dollar_words, hint_words, in_backquotes, nearest_words, today_words, next_quoted, question_words, same_words, groups_words, unclosed_words, wrong_escape_words};
@@ -23,82 +23,96 @@ use std::alloc::AllocError;
 use wat_mnemonics::table::OPS;
 use wat_tokens::Fault;
 
-/// Adds the word of a value, between backquotes.
+/// Adds the word of a value after a mark, between backquotes.
 #[tactic(auto, unfolding(crate::specs::HintWords::in_backquotes))]
-fn add_quoted<T: Spelled>(out: &mut Vec<u8>, one: T) -> Result<(), AllocError>
-    ensures { OnOk result (out.new.items ≡ out.old.items ++ in_backquotes T.spelling one) }
+fn add_quoted<T: Spelled>(out: &mut Vec<u8>, mark: &str, one: T) -> Result<(), AllocError>
+    ensures { OnOk result (out.new.items ≡ out.old.items ++ in_backquotes mark.now T.spelling
+        one) }
 {
     add(out, "`")?;
+    add(out, mark)?;
     add(out, one.spelled())?;
     add(out, "`")
 }
 
 /// Adds further words, each after a comma.
-fn add_further<T: Spelled>(out: &mut Vec<u8>, further: &[T]) -> Result<(), AllocError>
-    ensures { OnOk result (out.new.items ≡ out.old.items ++ flat_map (next_quoted T.spelling)
-        further.now) }
+fn add_further<T: Spelled>(out: &mut Vec<u8>, mark: &str, further: &[T]) -> Result<(), AllocError>
+    ensures { OnOk result (out.new.items ≡ out.old.items ++ flat_map (next_quoted mark.now
+        T.spelling) further.now) }
 {
     for one in further {
         add(out, ", ")?;
-        add_quoted(out, *one)?;
+        add_quoted(out, mark, *one)?;
     }
     Ok(())
 }
 
 /// Adds the question whether one of the words was meant.
 #[tactic(auto, unfolding(crate::specs::HintWords::question_words))]
-fn add_question<T: Spelled>(out: &mut Vec<u8>, first: T, further: &[T]) -> Result<(), AllocError>
-    ensures { OnOk result (out.new.items ≡ out.old.items ++ question_words T.spelling first
+fn add_question<T: Spelled>(
+    out: &mut Vec<u8>,
+    mark: &str,
+    first: T,
+    further: &[T],
+) -> Result<(), AllocError>
+    ensures { OnOk result (out.new.items ≡ out.old.items ++ question_words mark.now T.spelling first
         further.now) }
 {
     add(out, "did you mean ")?;
-    add_quoted(out, first)?;
-    add_further(out, further)?;
+    add_quoted(out, mark, first)?;
+    add_further(out, mark, further)?;
     add(out, "?")
 }
 
 /// Adds the question whether one of the words was meant. Adds nothing if there is no word.
 #[tactic(auto, using(crate::proofs::Nearby::nearest_words_some))]
-fn add_nearest<T: Spelled>(out: &mut Vec<u8>, found: &[T]) -> Result<(), AllocError>
-    ensures { OnOk result (out.new.items ≡ out.old.items ++ nearest_words T.spelling found.now) }
+fn add_nearest<T: Spelled>(out: &mut Vec<u8>, mark: &str, found: &[T]) -> Result<(), AllocError>
+    ensures { OnOk result (out.new.items ≡ out.old.items ++ nearest_words mark.now T.spelling
+        found.now) }
 {
     match found.split_first() {
         None => Ok(()),
-        Some((first, further)) => add_question(out, *first, further),
+        Some((first, further)) => add_question(out, mark, *first, further),
     }
 }
 
-/// Adds the question whether one of the values nearest to the word was meant.
-fn add_nearest_to<T: Spelled>(out: &mut Vec<u8>, all: &[T], word: &str) -> Result<(), AllocError>
-    ensures { OnOk result (out.new.items ≡ out.old.items ++ nearest_words T.spelling
+/// Adds the question whether one of the values nearest to the word was meant. Each is written after
+/// the mark.
+pub(crate) fn add_nearest_to<T: Spelled>(
+    out: &mut Vec<u8>,
+    mark: &str,
+    all: &[T],
+    word: &str,
+) -> Result<(), AllocError>
+    ensures { OnOk result (out.new.items ≡ out.old.items ++ nearest_words mark.now T.spelling
         (nearest_among T.spelling word.now all.now)) }
 {
     let found = nearest_among(*out.allocator(), all, word.as_bytes())?;
-    add_nearest(out, &found)
+    add_nearest(out, mark, &found)
 }
 
 /// Adds the question for the mnemonics nearest to the word.
 fn add_near_mnemonics(out: &mut Vec<u8>, word: &str) -> Result<(), AllocError>
-    ensures { OnOk result (out.new.items ≡ out.old.items ++ nearest_words op_word
+    ensures { OnOk result (out.new.items ≡ out.old.items ++ nearest_words [] op_word
         (nearest_among op_word word.now OPS)) }
 {
-    add_nearest_to(out, &OPS, word)
+    add_nearest_to(out, "", &OPS, word)
 }
 
 /// Adds the question for the words of fields nearest to the word.
 fn add_near_fields(out: &mut Vec<u8>, word: &str) -> Result<(), AllocError>
-    ensures { OnOk result (out.new.items ≡ out.old.items ++ nearest_words keyword_text
+    ensures { OnOk result (out.new.items ≡ out.old.items ++ nearest_words [] keyword_text
         (nearest_among keyword_text word.now FIELD_WORDS)) }
 {
-    add_nearest_to(out, &FIELD_WORDS, word)
+    add_nearest_to(out, "", &FIELD_WORDS, word)
 }
 
 /// Adds the question for the types nearest to the word.
 fn add_near_types(out: &mut Vec<u8>, word: &str) -> Result<(), AllocError>
-    ensures { OnOk result (out.new.items ≡ out.old.items ++ nearest_words keyword_text
+    ensures { OnOk result (out.new.items ≡ out.old.items ++ nearest_words [] keyword_text
         (nearest_among keyword_text word.now TYPE_WORDS)) }
 {
-    add_nearest_to(out, &TYPE_WORDS, word)
+    add_nearest_to(out, "", &TYPE_WORDS, word)
 }
 
 /// Adds the word that replaced an old word.

@@ -109,7 +109,7 @@ fn add_place(out: &mut Vec<u8>, diagnostic: &Diagnostic) -> Result<(), AllocErro
 fn add_fault(out: &mut Vec<u8>, diagnostic: &Diagnostic) -> Result<(), AllocError>
     ensures { OnOk result (out.new.items ≡ out.old.items ++ json_fault diagnostic.now) }
 {
-    add_member(out, "fault", diagnostic.fault.name().as_bytes())?;
+    add_member(out, "fault", diagnostic.kind.name().as_bytes())?;
     add_member(out, "message", &diagnostic.message)
 }
 

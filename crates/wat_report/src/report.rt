@@ -56,9 +56,9 @@ fn add_further_lines(out: &mut Vec<u8>, diagnostic: &Diagnostic) -> Result<(), A
 /// Adds the report of a diagnostic for a text of that name.
 ///
 /// The report has a line `NAME:LINE:COLUMN: error: MESSAGE`, the line of the text, a line with a
-/// caret below the place, and, for some faults, a line `hint: ..` or `expected: ..`. Of the line of
-/// the text, it shows about 100 bytes before the place and 100 bytes from the place on, with `..` on
-/// each side where there is more.
+/// caret below each underlined character, and, for some faults, a line `hint: ..` or `expected: ..`.
+/// Of the line of the text, it shows about 100 bytes before the place and 100 bytes from the place
+/// on, with `..` on each side where there is more.
 ///
 /// The error is AllocError if memory runs out. Then a prefix of the report may have been added.
 #[tactic(auto, unfolding(crate::specs::Report::report_text))]

@@ -1,32 +1,13 @@
 -- Lemmas about lists of names, and about sets of names.
 use Rattle.std.proofs.Common.{◌≡◌, ℕ, Bool, true, false, ◌||◌, List, [], ◌∷◌, ◌++◌, refl, sym, ap, ◌∙◌, cond, subst, append_assoc, take, ◌+◌, ◌<◌, length, get_or}
-use Rattle.std.proofs.Math.Bool.{or_assoc, or_comm, or-false}
+use Rattle.std.proofs.Math.Bool.{or_comm, or-false}
 use Rattle.std.proofs.lemmas.List.{take_more, map-append}
 use Rattle.std.specs.HashSet.{contains, HashSet}
 use Rattle.wat_scopes.specs.Spaces.{NameModel, name_view, same_name}
 use Rattle.wat_scopes.specs.Known.{has_name, HasNames, names, same_names}
-use Rattle.wat_scopes.specs.Laws.Spaces.{same_name_decides}
+use Rattle.wat_scopes.specs.Laws.Known.{has_name-append, same_name_sym}
 use Rattle.wat_scopes.specs.declared.space.Name.{Name}
 use Rattle.wat_scopes.specs.declared.space.Space.TheVariants as kinds
-
--- two tests that imply one another are the same
-same_tests : (a b : Bool) → (a ≡ true → b ≡ true) → (b ≡ true → a ≡ true) → a ≡ b
-same_tests true b f g = sym (f refl)
-same_tests false true f g = g refl
-same_tests false false f g = refl
-
-pub same_name_sym : (m n : NameModel) → same_name m n ≡ same_name n m
-same_name_sym m n =
-    same_tests (same_name m n) (same_name n m)
-    (λ e. (same_name_decides n m).1 (sym ((same_name_decides m n).0 e)))
-    (λ e. (same_name_decides m n).1 (sym ((same_name_decides n m).0 e)))
-
-pub has_name-append : (n : NameModel) (xs ys : List NameModel)
-    → has_name n (xs ++ ys) ≡ (has_name n xs || has_name n ys)
-has_name-append n [] ys = refl
-has_name-append n (x ∷ xs) ys =
-    ap (λ b. same_name n x || b) (has_name-append n xs ys)
-    ∙ sym (or_assoc (same_name n x) (has_name n xs) (has_name n ys))
 
 cond_or : (a b : Bool) → cond a true b ≡ (a || b)
 cond_or true b = refl

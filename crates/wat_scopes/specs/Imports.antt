@@ -2,19 +2,27 @@
 -- tag (Core Specification, Text Format, "Modules").
 use Rattle.std.specs.Prelude.{List, [], ◌∷◌, None}
 use Rattle.wat_scopes.specs.declared.fault.NameFault.{NameFault}
+use Rattle.wat_scopes.specs.declared.fault.Note.{Note}
+use Rattle.wat_scopes.specs.declared.fault.Note.TheVariants.{First}
 use Rattle.wat_scopes.specs.declared.imports.Mark.{Mark}
 use Rattle.wat_scopes.specs.declared.imports.Mark.TheVariants.{Import, Definition}
 use Rattle.wat_scopes.specs.declared.fault.FaultKind.TheVariants as kind
 
--- a fault for each import, at its position
-abbrev pub import_faults : List Mark → List NameFault
-import_faults [] = []
-import_faults (Import s ∷ ms) =
-    record { kind = kind.LateImport; space = None; id = None; span = s } ∷ import_faults ms
-import_faults (Definition s ∷ ms) = import_faults ms
+-- a fault for each import, at its position, with the note n
+abbrev pub import_faults : Note → List Mark → List NameFault
+import_faults n [] = []
+import_faults n (Import s ∷ ms) = record {
+  kind = kind.LateImport;
+  space = None;
+  id = None;
+  span = s;
+  note = n;
+} ∷ import_faults n ms
+import_faults n (Definition s ∷ ms) = import_faults n ms
 
--- a fault for each import after a definition: for each import after the first definition
+-- A fault for each import after a definition: for each import after the first definition, with the
+-- position of that definition.
 abbrev pub late_imports : List Mark → List NameFault
 late_imports [] = []
 late_imports (Import s ∷ ms) = late_imports ms
-late_imports (Definition s ∷ ms) = import_faults ms
+late_imports (Definition s ∷ ms) = import_faults (First s) ms

@@ -1,11 +1,13 @@
 pub use Rattle.wat_tokens.specs.Index
 pub use Rattle.wat_tokens.specs.Views
 pub mod Blocks
+pub mod FaultModels
 pub mod Faults
 pub mod Frames
 pub mod Imports
 pub mod Known
 pub mod Laws
 pub mod NameFaults
+pub mod OpenBlocks
 pub mod Spaces
 pub mod Steps

@@ -7,10 +7,17 @@ use Rattle.wat_scopes.specs.declared.space.Name.{Name}
 use Rattle.wat_scopes.specs.declared.fault.FaultKind.{FaultKind}
 use Rattle.wat_scopes.specs.declared.fault.FaultKind.TheVariants.{DoubledName, UnknownName}
 use Rattle.wat_scopes.specs.declared.fault.NameFault.{NameFault}
+use Rattle.wat_scopes.specs.declared.fault.Note.TheVariants.{Nothing}
 
 -- the fault of a name, at its position
 abbrev pub name_fault : FaultKind → Name → NameFault
-name_fault k n = record { kind = k; space = Some n.space; id = Some n.id; span = span_of n.id }
+name_fault k n = record {
+  kind = k;
+  space = Some n.space;
+  id = Some n.id;
+  span = span_of n.id;
+  note = Nothing;
+}
 
 -- the fault of a name if the test is true, otherwise none
 abbrev pub fault_if : Bool → FaultKind → Name → List NameFault

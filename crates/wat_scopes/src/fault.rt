@@ -58,6 +58,22 @@ impl FaultKind {
     }
 }
 
+/// What else a report says of a fault: where to look for its reason.
+#[derive(Clone, Copy, Debug)]
+pub enum Note<'a> {
+    /// Nothing.
+    Nothing,
+    /// The position of the first function, table, memory, global or tag that is defined in the
+    /// module, for LateImport.
+    First(Span),
+    /// The innermost block that is open before the instruction: its label, and the position of the
+    /// instruction that begins it. For OtherLabel, MisplacedElse and MisplacedCatch.
+    Block(Option<Id<'a>>, Span),
+    /// The labels of the enclosing blocks that have one, the innermost first, at most three. For
+    /// UnknownLabel.
+    Labels(Option<Id<'a>>, Option<Id<'a>>, Option<Id<'a>>),
+}
+
 /// A fault of names, blocks or imports: its kind, its subject and its position in the text.
 #[derive(Clone, Copy, Debug)]
 pub struct NameFault<'a> {
@@ -70,4 +86,6 @@ pub struct NameFault<'a> {
     /// The position: of the identifier or the label; of the instruction, if the fault is about no
     /// label and spans are kept; otherwise of the field.
     pub span: Span,
+    /// What else a report says.
+    pub note: Note<'a>,
 }

@@ -3,7 +3,7 @@
 ghost use Rattle.std.specs.Prelude.{◌≡◌, ◌++◌, OnOk};
 ghost use Rattle.wat_scopes.specs.Imports.{late_imports};
 
-use crate::fault::{FaultKind, NameFault};
+use crate::fault::{FaultKind, NameFault, Note};
 use std::alloc::AllocError;
 use wat_tokens::Span;
 
@@ -21,17 +21,18 @@ pub enum Mark {
 pub fn check_imports(out: &mut Vec<NameFault<'_>>, marks: &[Mark]) -> Result<(), AllocError>
     ensures { OnOk result (out.new.items ≡ out.old.items ++ late_imports marks.now) }
 {
-    let mut has_definition = false;
+    let mut first = None;
     for mark in marks {
         match mark {
-            Mark::Definition(_) => has_definition = true,
+            Mark::Definition(span) => first = first.or(Some(*span)),
             Mark::Import(span) => {
-                if has_definition {
+                if let Some(first) = first {
                     out.push(NameFault {
                         kind: FaultKind::LateImport,
                         space: None,
                         id: None,
                         span: *span,
+                        note: Note::First(first),
                     })?;
                 }
             }

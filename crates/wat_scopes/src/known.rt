@@ -6,7 +6,7 @@ ghost use Rattle.wat_scopes.specs.Known.{HasNames, names, distinct, all_known};
 ghost use Rattle.wat_scopes.specs.NameFaults.{fault_if, doubled_faults, unknown_faults};
 ghost use Rattle.wat_scopes.specs.Spaces.{NameModel};
 
-use crate::fault::{FaultKind, NameFault};
+use crate::fault::{FaultKind, NameFault, Note};
 use crate::space::Name;
 use std::alloc::AllocError;
 use std::collections::HashSet;
@@ -26,6 +26,7 @@ fn add_if<'a>(
             space: Some(name.space),
             id: Some(name.id),
             span: name.id.span(),
+            note: Note::Nothing,
         })?;
     }
     Ok(())

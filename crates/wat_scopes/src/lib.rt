@@ -3,7 +3,8 @@
 //! "Contexts", "Labels" and "Modules").
 //!
 //! - [`check_names`] compares the identifiers that are used with those that are defined.
-//! - [`first_block_fault`] follows the blocks and labels of an expression.
+//! - [`first_block_fault`] follows the blocks and labels of an expression, and [`open_blocks`] returns
+//!   the blocks that are open after some of its steps.
 //! - [`check_imports`] finds the imports after a definition.
 #![tactic(auto)]
 
@@ -11,12 +12,14 @@ mod blocks;
 mod fault;
 mod imports;
 mod known;
+mod open;
 mod space;
 mod steps;
 
 pub use blocks::{BlockFault, first_block_fault};
-pub use fault::{FaultKind, NameFault};
+pub use fault::{FaultKind, NameFault, Note};
 pub use imports::{Mark, check_imports};
 pub use known::check_names;
+pub use open::{OpenBlock, open_blocks};
 pub use space::{Name, Space};
 pub use steps::{Act, Part, Step};

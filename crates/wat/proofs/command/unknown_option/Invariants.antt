@@ -5,4 +5,4 @@ use Rattle.wat.proofs.command.unknown_option.Given as goal
 
 -- no word so far is an unknown option
 abbrev pub invariant-loop-at : goal.invariant-loop-at
-invariant-loop-at l = position_or_len (is_unknown l.own) (map string_bytes l.words) ≡ l.at + position_or_len (is_unknown l.own) (map string_bytes (drop l.at l.words))
+invariant-loop-at l = position_or_len (is_unknown l.name) (map string_bytes l.words) ≡ l.at + position_or_len (is_unknown l.name) (map string_bytes (drop l.at l.words))

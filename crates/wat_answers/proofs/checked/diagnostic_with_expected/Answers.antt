@@ -17,7 +17,7 @@ returns c =
             (ap (λ (x : Diagnostic). x.offset) w.diagnostic-is)
             (ap (λ (x : Diagnostic). x.length) w.diagnostic-is)
             (ap (λ (x : Diagnostic). x.place) w.diagnostic-is)
-            (ap (λ (x : Diagnostic). x.fault) w.diagnostic-is)
+            (ap (λ (x : Diagnostic). x.kind) w.diagnostic-is)
             (ap (λ (x : Diagnostic). x.message.items) w.diagnostic-is)
             (ap (λ (x : Diagnostic). x.shown.items) w.diagnostic-is)
             (ap (λ (x : Diagnostic). x.hint.items) w.diagnostic-is),
@@ -31,7 +31,7 @@ returns c =
             (ap (λ (x : Diagnostic). x.offset) w.diagnostic-is)
             (ap (λ (x : Diagnostic). x.length) w.diagnostic-is)
             (ap (λ (x : Diagnostic). x.place) w.diagnostic-is)
-            (ap (λ (x : Diagnostic). x.fault) w.diagnostic-is)
+            (ap (λ (x : Diagnostic). x.kind) w.diagnostic-is)
             (ap (λ (x : Diagnostic). x.message.items) w.diagnostic-is)
             (ap (λ (x : Diagnostic). x.shown.items) w.diagnostic-is)
             (ap (λ (x : Diagnostic). x.hint.items) w.diagnostic-is),

@@ -1,0 +1,8 @@
+(module
+  (tag $e)
+  (func
+    block
+    catch $e
+    end)
+  (func
+    catch_all))

@@ -1,0 +1,4 @@
+(module
+  (func $f)
+  (import "env" "g" (func $g))
+  (func $f))

@@ -1,0 +1,7 @@
+(module
+  (func
+    block
+    else
+    end)
+  (func
+    else))

@@ -1,0 +1,6 @@
+(module
+  (func (param i32)
+    local.get 0
+    if
+    else $then
+    end))

@@ -1,0 +1,4 @@
+(module
+  (memory 1)
+  (func (import "env" "f"))
+  (import "env" "g" (global i32)))

@@ -1,0 +1,5 @@
+(module
+  (func
+    f32.const 0x1.8p+3
+    drop
+    call $nowhere))

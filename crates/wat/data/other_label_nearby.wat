@@ -1,0 +1,6 @@
+(module
+  (func
+    block
+      block $a
+      end $b
+    end))

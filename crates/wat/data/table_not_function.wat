@@ -1,0 +1,4 @@
+(module
+  (table $handlers 1 funcref)
+  (func
+    call $handlers))

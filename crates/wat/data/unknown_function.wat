@@ -1,0 +1,6 @@
+(module
+  (func $log)
+  (func $loop_once)
+  (func
+    call $lug
+    call $print))

@@ -1,0 +1,8 @@
+(module
+  (func
+    block $outer
+      loop $again
+        br $agian
+      end
+    end
+    br $outer))

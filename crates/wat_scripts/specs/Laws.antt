@@ -1,0 +1,3 @@
+-- Laws of the definitions.
+pub mod Commands
+pub mod Visible
